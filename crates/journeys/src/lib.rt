@@ -1,0 +1,2 @@
+// Journeys over any network.
+pub mod walks;

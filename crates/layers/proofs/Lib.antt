@@ -1,0 +1,3 @@
+pub mod Delayed
+pub mod Fronts
+pub mod Gated

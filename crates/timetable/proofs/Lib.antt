@@ -1,0 +1,3 @@
+mod Departures
+mod Filling
+mod Lawfully
