@@ -1,1 +1,4 @@
 pub mod Walking
+pub mod Questions
+pub mod Journeys
+pub mod Rank

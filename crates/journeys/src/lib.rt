@@ -1,2 +1,3 @@
-// Journeys over any network.
+// Journeys over any network: the questions they answer, and walks along edges.
+pub mod question;
 pub mod walks;

@@ -1,130 +1,71 @@
-// plan START EDGE EDGE ..: walks a list of edges over a timetable and prints each step.
-use journeys::walks::Blocked;
-use journeys::walks::Obstacle;
-use journeys::walks::take_edge;
-use journeys::walks::walk;
+// plan FILE ORIGIN DESTINATION START LATEST [--window EDGE,FROM,UNTIL].. [--late EDGE,SECONDS]..: the first journey in rank.
+mod asked;
+mod day;
+mod failure;
+mod reasons;
+mod shown;
+
+use asked::Asked;
+use day::load;
+use detour::detour;
+use failure::Failure;
+use failure::FailureDisplay;
+use failure::IoFailure;
+use failure::RefusalFailure;
+use journeys::question::Question;
+use layers::gate::Gate;
+use layers::gate::GateNetwork;
+use layers::late::Late;
+use layers::late::LateNetwork;
 use networks::Network;
-use std::alloc::Global;
-use std::env;
-use std::error::AnyError;
-use std::fmt;
-use timetable::records::Connection;
-use timetable::records::Footpath;
+use refusals::Refusal;
+use shown::print_journey;
+use stops::StopSet;
 use timetable::table::DayTable;
 use timetable::table::DayTableNetwork;
 
-// An instant as hours, minutes and seconds.
-#[derive(Clone, Copy)]
-struct Clock(u32);
-
-impl fmt::Display for Clock as ClockDisplay {
-    fn fmt<W: fmt::Write>(&self, f: &mut fmt::Formatter<W>) -> fmt::Result {
-        let hours = self.0 / 3600;
-        let minutes = self.0 / 60 % 60;
-        let seconds = self.0 % 60;
-        write!(f, "{hours:02}:{minutes:02}:{seconds:02}")
+// The table under the gate hours and the late notices that were asked for.
+fn layered(table: DayTable, asked: &Asked) -> Result<Late<Gate<DayTable>>, Refusal> {
+    let mut gate = Gate::new(table);
+    for window in asked.windows.iter().copied() {
+        gate.add(window)?;
     }
+    let mut late = Late::new(gate);
+    for notice in asked.notices.iter().copied() {
+        late.add(notice)?;
+    }
+    Ok(late)
 }
 
-fn ride(from: u8, to: u8, departure: u32, arrival: u32, trip: u16) -> Connection {
-    Connection {
-        from,
-        to,
-        departure,
-        arrival,
-        trip,
-    }
-}
-
-// The worked station example.
-fn station(heap: Global) -> Result<DayTable, AnyError> {
-    let connections = [
-        ride(0, 1, 28_800, 29_400, 0),
-        ride(0, 2, 28_860, 29_700, 1),
-        ride(1, 3, 29_460, 30_600, 0),
-        ride(2, 3, 29_760, 30_300, 1),
-        ride(1, 3, 30_000, 30_600, 2),
-    ];
-    let footpaths = [Footpath {
-        from: 1,
-        to: 2,
-        duration: 240,
-    }];
-    let mut table = DayTable::new(heap)?;
-    match table.fill(&connections, &footpaths) {
-        Ok(()) => Ok(table),
-        Err(_) => Err("the timetable is refused".into()),
-    }
-}
-
-fn reason(obstacle: Obstacle) -> &'static str {
-    match obstacle {
-        Obstacle::NoSuchEdge => "there is no such edge",
-        Obstacle::LeavesElsewhere => "it leaves another stop",
-        Obstacle::NoDeparture => "nothing departs in time",
-    }
-}
-
-// Prints the steps that can be taken, one a line.
-fn print_steps<N: Network>(
-    rt: &LibcRuntime,
-    network: &N,
-    start: u32,
-    edges: &[u16],
-) -> Result<(), AnyError> {
-    let mut here = None;
-    let mut instant = start;
-    for edge in edges {
-        let Ok(step) = take_edge(network, here, instant, *edge) else {
-            break;
-        };
-        let (from, to) = (step.from, step.to);
-        let (asked, arrival) = (Clock(instant), Clock(step.arrival));
-        println!(
-            rt,
-            "edge {edge}: stop {from} at {asked}, stop {to} at {arrival}"
-        )?;
-        here = Some(to);
-        instant = step.arrival;
-    }
+// Prints the first journey in rank.
+fn answer<N: Network>(rt: &LibcRuntime, network: &N, question: &Question) -> Result<(), Failure> {
+    let mut edges = [0; 255];
+    let mut shut = StopSet::empty();
+    let (_, count) = detour(
+        network,
+        question.origin(),
+        question.destination(),
+        question.start(),
+        question.latest(),
+        &mut shut,
+        &[],
+        &mut edges,
+    )?;
+    print_journey(rt, network, question.start(), &edges[0..count.min(255)])?;
     Ok(())
 }
 
-fn print_walk<N: Network>(
-    rt: &LibcRuntime,
-    network: &N,
-    start: u32,
-    edges: &[u16],
-) -> Result<(), AnyError> {
-    print_steps(rt, network, start, edges)?;
-    match walk(network, start, edges) {
-        Ok(arrival) => {
-            let arrival = Clock(arrival);
-            println!(rt, "arrival {arrival}")?;
-        }
-        Err(Blocked { step, obstacle }) => {
-            let why = reason(obstacle);
-            println!(rt, "step {step} fails: {why}")?;
-        }
-    }
-    Ok(())
+fn run(rt: &LibcRuntime) -> Result<(), Failure> {
+    let asked = Asked::read(rt)?;
+    let question = Question::new(asked.origin, asked.destination, asked.start, asked.latest)?;
+    let network = layered(load(rt, &asked.file)?, &asked)?;
+    answer(rt, &network, &question)
 }
 
-fn run(rt: &LibcRuntime) -> Result<(), AnyError> {
-    let mut args = env::args(rt)?;
-    let _program = args.next();
-    let Some(start) = args.next() else {
-        return Err("usage: plan START EDGE..".into());
-    };
-    let start = start.parse::<u32>()?;
-    let mut edges = Vec::new(rt.alloc());
-    for arg in args {
-        edges.push(arg.parse::<u16>()?)?;
+fn main(rt: LibcRuntime) -> Result<(), Failure> {
+    let result = run(&rt);
+    if let Err(failure) = &result {
+        let _ = eprintln!(rt, "{failure}");
     }
-    let table = station(rt.alloc())?;
-    print_walk(rt, &table, start, &edges)
-}
-
-fn main(rt: LibcRuntime) -> Result<(), AnyError> {
-    rt.report(run(&rt))
+    result
 }

@@ -1,0 +1,4 @@
+pub mod Layout
+pub mod Code
+pub mod Faults
+pub mod Whole

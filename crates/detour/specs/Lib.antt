@@ -1,0 +1,3 @@
+pub mod Departing
+pub mod Choosing
+pub mod Detours

@@ -1,0 +1,14 @@
+pub mod Taking
+pub mod Ways
+pub mod Ranks
+pub mod Greedy
+pub mod Choosing
+pub mod Bridge
+pub mod Short
+pub mod Diverging
+pub mod Places
+pub mod Nexts
+pub mod Entries
+pub mod Relaxing
+pub mod Settling
+pub mod Listing

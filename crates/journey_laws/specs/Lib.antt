@@ -1,0 +1,4 @@
+pub mod Ways
+pub mod Branching
+pub mod Theorems
+pub mod Arrivals
