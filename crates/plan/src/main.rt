@@ -1,4 +1,4 @@
-// plan FILE ORIGIN DESTINATION START LATEST [--window EDGE,FROM,UNTIL].. [--late EDGE,SECONDS]..: the first journey in rank.
+// plan FILE ORIGIN DESTINATION START LATEST [--window EDGE,FROM,UNTIL].. [--late EDGE,SECONDS]..: the first journeys in rank.
 mod asked;
 mod day;
 mod failure;
@@ -7,7 +7,6 @@ mod shown;
 
 use asked::Asked;
 use day::load;
-use detour::detour;
 use failure::Failure;
 use failure::FailureDisplay;
 use failure::IoFailure;
@@ -19,8 +18,10 @@ use layers::late::Late;
 use layers::late::LateNetwork;
 use networks::Network;
 use refusals::Refusal;
+use search::calls::Answer;
+use search::calls::Call;
+use search::run::run;
 use shown::print_journey;
-use stops::StopSet;
 use timetable::table::DayTable;
 use timetable::table::DayTableNetwork;
 
@@ -37,33 +38,35 @@ fn layered(table: DayTable, asked: &Asked) -> Result<Late<Gate<DayTable>>, Refus
     Ok(late)
 }
 
-// Prints the first journey in rank.
-fn answer<N: Network>(rt: &LibcRuntime, network: &N, question: &Question) -> Result<(), Failure> {
-    let mut edges = [0; 255];
-    let mut shut = StopSet::empty();
-    let (_, count) = detour(
-        network,
-        question.origin(),
-        question.destination(),
-        question.start(),
-        question.latest(),
-        &mut shut,
-        &[],
-        &mut edges,
-    )?;
-    print_journey(rt, network, question.start(), &edges[0..count.min(255)])?;
+// Prints the first sixteen journeys in rank, or as many as there are; it is refused if there is none.
+fn list<N: Network + Drop>(
+    rt: &LibcRuntime,
+    network: N,
+    question: Question,
+) -> Result<(), Failure> {
+    let mut answers = [Answer::Struck; 16];
+    let network = run(network, question, &[Call::Next; 16], &mut answers).into_network();
+    let first = &answers[0];
+    if let Answer::Refused(refusal) = first {
+        return Err(Failure::Refused(*refusal));
+    }
+    for (i, answer) in answers.iter().enumerate() {
+        if let Answer::Gave(journey) = answer {
+            print_journey(rt, &network, question.start(), i + 1, journey)?;
+        }
+    }
     Ok(())
 }
 
-fn run(rt: &LibcRuntime) -> Result<(), Failure> {
+fn answer(rt: &LibcRuntime) -> Result<(), Failure> {
     let asked = Asked::read(rt)?;
     let question = Question::new(asked.origin, asked.destination, asked.start, asked.latest)?;
     let network = layered(load(rt, &asked.file)?, &asked)?;
-    answer(rt, &network, &question)
+    list(rt, network, question)
 }
 
 fn main(rt: LibcRuntime) -> Result<(), Failure> {
-    let result = run(&rt);
+    let result = answer(&rt);
     if let Err(failure) = &result {
         let _ = eprintln!(rt, "{failure}");
     }

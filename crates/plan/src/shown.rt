@@ -1,4 +1,5 @@
 // A journey as a person reads it.
+use entries::entry::Entry;
 use journeys::walks::take_edge;
 use networks::Network;
 use std::fmt;
@@ -17,28 +18,30 @@ impl fmt::Display for Clock as ClockDisplay {
     }
 }
 
-// Prints each edge with its stops and instants, and then the arrival.
+// Prints a journey with its number: its arrival, and each edge with its stops and instants.
 pub fn print_journey<N: Network>(
     rt: &LibcRuntime,
     network: &N,
     start: u32,
-    edges: &[u16],
+    number: usize,
+    journey: &Entry,
 ) -> io::Result<()> {
+    let arrival = Clock(journey.arrival);
+    println!(rt, "{number}: arrival {arrival}")?;
     let mut here = None;
     let mut instant = start;
-    for edge in edges {
+    for edge in &journey.edges[0..journey.count] {
         let Ok(step) = take_edge(network, here, instant, *edge) else {
             break;
         };
         let (from, to) = (step.from, step.to);
-        let (asked, arrival) = (Clock(instant), Clock(step.arrival));
+        let (asked, reached) = (Clock(instant), Clock(step.arrival));
         println!(
             rt,
-            "edge {edge}: stop {from} at {asked}, stop {to} at {arrival}"
+            "  edge {edge}: stop {from} at {asked}, stop {to} at {reached}"
         )?;
         here = Some(to);
         instant = step.arrival;
     }
-    let arrival = Clock(instant);
-    println!(rt, "arrival {arrival}")
+    Ok(())
 }

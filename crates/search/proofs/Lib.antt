@@ -1,0 +1,4 @@
+pub mod Entering
+pub mod Refusing
+pub mod Copying
+pub mod Turns
