@@ -1,4 +1,6 @@
 // The first in rank of the unlisted journeys of a question: the best of the detours that leave the entries of a search.
+#![tactic(auto)]
+
 ghost use Rattle.std.specs.Prelude.{◌≡◌, ℕ, ◌+◌, ◌<◌, ◌≤◌, [], ◌++◌, length, take, drop, None};
 ghost use Rattle.journeys.specs.Journeys.{In};
 ghost use Rattle.journey_laws.specs.Branching.{Place};

@@ -1,4 +1,6 @@
 // What a day file is made of: its kinds of record, and how many of each it holds.
+#![tactic(auto)]
+
 ghost use Rattle.std.specs.Prelude.{◌≡◌};
 ghost use Rattle.dayformat.specs.Layout.{layout, size};
 

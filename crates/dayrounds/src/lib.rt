@@ -1,4 +1,6 @@
 // Both round trips: reading a file and writing it again, and writing records and reading them again.
+#![tactic(auto)]
+
 ghost use Rattle.std.specs.Prelude.{◌≡◌};
 ghost use Rattle.refusals.specs.Verdicts.{Verdict};
 ghost use Rattle.refusals.specs.declared.Refusal.TheVariants.{OfFile};

@@ -1,4 +1,6 @@
 // The first journey in rank around shut stops and barred edges, over any network.
+#![tactic(auto)]
+
 ghost use Rattle.std.specs.Prelude.{◌≡◌, ℕ, ◌<◌, ◌≤◌, true, false, ◌≢◌, List, [], ◌∷◌, take, drop, IfOk, MatchResult, slice_index};
 ghost use Rattle.refusals.specs.Verdicts.{Verdict};
 ghost use Rattle.refusals.specs.declared.Refusal.TheVariants.{OfDetour};

@@ -1,4 +1,6 @@
 // The entries of a search: the journeys that were given or struck, and by which edges they go on.
+#![tactic(auto)]
+
 ghost use Rattle.std.specs.Prelude.{◌≡◌, ℕ, ◌<◌, ◌≤◌, ◌↔◌, [], length, take};
 ghost use Rattle.journeys.specs.Journeys.{In};
 ghost use Rattle.journey_laws.specs.Branching.{NextEdge};

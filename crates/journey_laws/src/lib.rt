@@ -1,4 +1,6 @@
 // Theorems on journeys, each the promise of a function; they hold over every network.
+#![tactic(auto)]
+
 ghost use Rattle.journey_laws.specs.Theorems.{RankIsTotal, NoneBeginsAnother, OneArrival, OneFirst, AtMost255Edges, LeavesOnce, NextIsLeast};
 
 // Rank is a strict total order on the simple journeys of a question.

@@ -1,4 +1,6 @@
 // Layers over any network, each again a network: gate hours and late notices.
+#![tactic(auto)]
+
 pub mod gate;
 pub mod late;
 mod notices;

@@ -1,4 +1,6 @@
 // A network is known by three questions; every kind of network answers them from its meaning and keeps the laws.
+#![tactic(auto)]
+
 ghost use Rattle.std.specs.Prelude.{◌≡◌};
 ghost use Rattle.networks.specs.Networks.{Meaning, Lawful};
 

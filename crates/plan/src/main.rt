@@ -1,4 +1,6 @@
 // plan FILE ORIGIN DESTINATION START LATEST [--window EDGE,FROM,UNTIL].. [--late EDGE,SECONDS]..: the first journeys in rank.
+#![tactic(auto)]
+
 mod asked;
 mod day;
 mod failure;

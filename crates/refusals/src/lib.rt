@@ -1,4 +1,6 @@
 // Why a call of the engine turns down its input: one type for every refusal, with its number, its layer and its place.
+#![tactic(auto)]
+
 ghost use Rattle.std.specs.Prelude.{◌≡◌};
 ghost use Rattle.refusals.specs.Told.{told};
 ghost use Rattle.refusals.specs.declared.Refusal.TheVariants.{OfFile, OfTable, OfBook, OfWindow, OfNotice, OfQuestion, OfSearch, OfDetour};

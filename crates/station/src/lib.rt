@@ -1,4 +1,6 @@
 // The worked station example, with a table of its cases that is computed from the definitions.
+#![tactic(auto)]
+
 ghost use Rattle.std.specs.Prelude.{◌≡◌};
 ghost use Rattle.station.specs.Headways.{example_line, HeadwaysStand};
 

@@ -1,4 +1,6 @@
 // A set of stops, and a guard that puts back what a set held.
+#![tactic(auto)]
+
 ghost use Rattle.std.specs.Prelude.{◌≡◌, ℕ, true, false, ◌≢◌};
 ghost use Rattle.stops.specs.Sets.{member};
 ghost use Rattle.stops.specs.Words.{bit};

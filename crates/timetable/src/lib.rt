@@ -1,4 +1,6 @@
 // What a timetable holds, and the two kinds of network that are filled from it.
+#![tactic(auto)]
+
 pub mod book;
 mod checks;
 pub mod records;

@@ -1,4 +1,6 @@
 // Runs cases that an independent program made over unpack and both fillings, and prints how many there are and which differ.
+#![tactic(auto)]
+
 use dayfile::unpack;
 use refusals::Refusal;
 use std::fs;

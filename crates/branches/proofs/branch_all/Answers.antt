@@ -8,7 +8,7 @@ use Rattle.branches.proofs.branch_all.Goals as goal
 pub loop-i-preserved : goal.loop-i-preserved
 loop-i-preserved g c = λ s p.
     entry_more (g.N.Network.meaning c.args.network.now) c.args.question.now (listed c.args.entries.now) c.args.list.now c.requires c.loop-i.i c.index-list-i.result
-    (best_of c.loop-i.best) (best_of c.branch-along.new.best) c.loop-i-test.true c.index-list-i.is (c.loop-i.invariant s p) (c.branch-along.ensures s)
+    (best_of c.loop-i.best) (best_of c.branch_along.new.best) c.loop-i-test.true c.index-list-i.is (c.loop-i.invariant s p) (c.branch_along.ensures s)
 
 pub returns : goal.returns
 returns g c = λ s p.

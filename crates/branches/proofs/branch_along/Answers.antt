@@ -36,7 +36,7 @@ returns-then-step-stop g c = λ s i u.
       | then-step-stop-via-then-step-stop x ↦ inl (same_stop st st' ∙ x.if-step-stop.true)
       | then-step-stop-via-else-step-stop+then-contains x ↦
           inr (subst (λ (z : ℕ). In z here.behind) (sym (same_stop st st'))
-          ((here.held e.to).0 (ap (λ (z : StopSet). member z e.to) (sym c.branch-once.ensures.same) ∙ sym x.if-contains.ensures)))
+          ((here.held e.to).0 (ap (λ (z : StopSet). member z e.to) (sym c.branch_once.ensures.same) ∙ sym x.if-contains.ensures)))
     ])
     q.destination _ (ways m q (listed c.args.entries.now) s es i).1)
 
@@ -58,14 +58,14 @@ loop-k-preserved g c =
     let k = c.loop-k.k in
     let e = c.in-Ok.step in
     let h = c.in-Ok.ensures in
-    let here : At m q (take k es) c.branch-once.new.behind c.loop-k.stop c.loop-k.instant =
-    subst (λ (z : StopSet). At m q (take k es) z c.loop-k.stop c.loop-k.instant) (sym c.branch-once.ensures.same) c.loop-k.invariant.0 in
+    let here : At m q (take k es) c.branch_once.new.behind c.loop-k.stop c.loop-k.instant =
+    subst (λ (z : StopSet). At m q (take k es) z c.loop-k.stop c.loop-k.instant) (sym c.branch_once.ensures.same) c.loop-k.invariant.0 in
     let st : Takes m c.loop-k.stop c.loop-k.instant (get_or es k 0) e.to e.arrival =
     subst (λ (z : ℕ). Takes m z c.loop-k.instant (get_or es k 0) e.to e.arrival) (sym h.0) h.1 in (
-      goes_on m q es k c.branch-once.new.behind c.loop-k.stop c.loop-k.instant here c.loop-k-test.true c.insert.new.self e.to e.arrival st c.if-step-stop.false (sym c.if-contains.ensures) c.insert.ensures.after c.insert.ensures.rest,
+      goes_on m q es k c.branch_once.new.behind c.loop-k.stop c.loop-k.instant here c.loop-k-test.true c.insert.new.self e.to e.arrival st c.if-step-stop.false (sym c.if-contains.ensures) c.insert.ensures.after c.insert.ensures.rest,
       λ s i u.
           one_more m q (listed c.args.entries.now) (all_edges c.args.earlier.now) es k c.loop-k.behind c.loop-k.stop c.loop-k.instant
-          (best_of c.args.best.now) (best_of c.loop-k.best) (best_of c.branch-once.new.best) i c.loop-k-test.true c.loop-k.invariant.0 (c.loop-k.invariant.1 s i u) (c.branch-once.ensures.progress s),
+          (best_of c.args.best.now) (best_of c.loop-k.best) (best_of c.branch_once.new.best) i c.loop-k-test.true c.loop-k.invariant.0 (c.loop-k.invariant.1 s i u) (c.branch_once.ensures.progress s),
     )
 
 pub returns : goal.returns

@@ -12,7 +12,7 @@ returns-in-Some g c =
     let m = g.N.Network.meaning c.args.network.now in
     let q = c.args.question.now in
     let ys = listed c.args.entries.now in
-    let b = c.best-branch-best.result in
+    let b = c.best_branch-best.result in
     let few = b.few in
     let whole = b.whole in
     let h = copied_out b.count b.edges c.args.buffer.now c.put.new.array (omega arith) c.put.ensures in
@@ -20,7 +20,7 @@ returns-in-Some g c =
       answer = λ s.
           subst (λ (z : List ℕ). FirstInRank (Unlisted m q ys) c.in-Some.arrival z) (sym h.0)
           (all_some m q ys s c.in-Some.arrival (take b.count b.edges)
-          (subst (λ (z : Option ℕ). Progress m q ys (Done ys) None (found z (take b.count b.edges))) c.in-Some.is (c.best-branch-best.ensures s)));
+          (subst (λ (z : Option ℕ). Progress m q ys (Done ys) None (found z (take b.count b.edges))) c.in-Some.is (c.best_branch-best.ensures s)));
       rest = (few, h.1);
     }
 
@@ -29,8 +29,8 @@ returns-in-None g c =
     let m = g.N.Network.meaning c.args.network.now in
     let q = c.args.question.now in
     let ys = listed c.args.entries.now in
-    let b = c.best-branch-best.result in
+    let b = c.best_branch-best.result in
     record {
-      answer = λ s. all_none m q ys s (subst (λ (z : Option ℕ). Progress m q ys (Done ys) None (found z (take b.count b.edges))) c.in-None.is (c.best-branch-best.ensures s));
+      answer = λ s. all_none m q ys s (subst (λ (z : Option ℕ). Progress m q ys (Done ys) None (found z (take b.count b.edges))) c.in-None.is (c.best_branch-best.ensures s));
       rest = refl;
     }

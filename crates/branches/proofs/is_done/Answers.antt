@@ -7,4 +7,4 @@ pub returns-then-beginning-eq0 : goal.returns-then-beginning-eq0
 returns-then-beginning-eq0 c = empty_known (all_edges c.args.earlier.now) c.args.beginning.now (omega arith)
 
 pub returns : goal.returns
-returns c = known (all_edges c.args.earlier.now) c.args.beginning.now c.if-beginning-eq0.false c.go-on.result c.go-on.ensures
+returns c = known (all_edges c.args.earlier.now) c.args.beginning.now c.if-beginning-eq0.false c.go_on.result c.go_on.ensures

@@ -9,7 +9,7 @@ use Rattle.detour.proofs.Chains.{skips}
 use Rattle.detour.proofs.Trying.{at, not_taken, no_earlier, earlier}
 use Rattle.detour.proofs.relax.Given as given
 use Rattle.detour.proofs.relax.Goals as goal
-use Rattle.detour.proofs.relax.Goals.{in-Some+then-arrival-arrivals, in-Some+else-arrival-arrivals, in-default}
+use Rattle.detour.proofs.relax.Goals.{in-Some+then-arrival-arrivals, in-Some+else-arrival-arrivals, in_default}
 
 pub loop-edge-init : goal.loop-edge-init
 loop-edge-init g c =
@@ -26,13 +26,13 @@ loop-edge-smaller g c = omega (arith, (ahead g c).low, c.loop-edge-test.true)
 pub loop-edge-preserved : goal.loop-edge-preserved
 loop-edge-preserved g c =
     let n = ahead g c in
-    let r : Relaxed (g.N.Network.meaning c.args.departures.now.network.now) (Also c.args.origin (Holds c.args.shut.now)) (λ e. In e c.args.barred.now) c.args.stop c.args.instant (c.loop-edge.edge + 1) (at c.args.arrivals.now) (at c.match-try-edge.arrivals)
-    = elim c.match-try-edge.branch [
+    let r : Relaxed (g.N.Network.meaning c.args.departures.now.network.now) (Also c.args.origin (Holds c.args.shut.now)) (λ e. In e c.args.barred.now) c.args.stop c.args.instant (c.loop-edge.edge + 1) (at c.args.arrivals.now) (at c.match-try_edge.arrivals)
+    = elim c.match-try_edge.branch [
       | in-Some+then-arrival-arrivals w ↦
           let within : w.in-Some.to < length c.loop-edge.arrivals = omega (arith, length-set c.loop-edge.arrivals w.in-Some.to w.in-Some.arrival, ap length w.arrivals-is) in
           rw w.arrivals-is (earlier c.loop-edge.arrivals c.loop-edge.invariant.2 w.in-Some.ensures w.if-arrival-arrivals.true within)
       | in-Some+else-arrival-arrivals w ↦ rw w.arrivals-is (no_earlier c.loop-edge.arrivals c.loop-edge.invariant.2 w.in-Some.ensures w.if-arrival-arrivals.false)
-      | in-default w ↦ rw w.arrivals-is (not_taken c.loop-edge.arrivals c.loop-edge.invariant.2 w.in-default.ensures)
+      | in_default w ↦ rw w.arrivals-is (not_taken c.loop-edge.arrivals c.loop-edge.invariant.2 w.in_default.ensures)
     ] in
     (omega (arith, n.most), (λ lt. n.leaves (omega arith)), skips r n)
 

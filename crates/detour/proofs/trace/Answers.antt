@@ -14,7 +14,7 @@ loop-here-init g c = (
   refl,
   refl,
   trace_start _ c.args.course.stop c.args.course.instant c.args.course.destination c.args.course.latest c.args.edges.now c.args.barred.now c.args.shut.now
-      (omega arith) c.requires.stop-free c.requires.destination-free c.requires.earliest,
+      (omega arith) c.requires.stop_free c.requires.destination_free c.requires.earliest,
 )
 
 pub choose-choice-requires : goal.choose-choice-requires

@@ -16,19 +16,19 @@ loop-journey-preserved c =
     let e = c.journey-item.result in
     let is = c.journey-item.is in
     let lt = c.loop-journey-test.true in
-    elim c.if-goes-on.branch [
-      | goal.then-goes-on w ↦
-          let (past, starts) = w.if-goes-on.ensures in
-          let full : length out ≡ 16 = simp length-set at (ap length (sym w.edges-is) ∙ c.if-goes-on.array_long) in
+    elim c.if-goes_on.branch [
+      | goal.then-goes_on w ↦
+          let (past, starts) = w.if-goes_on.ensures in
+          let full : length out ≡ 16 = simp length-set at (ap length (sym w.edges-is) ∙ c.if-goes_on.array_long) in
           subst₂ (λ (a : ℕ) (o : List ℕ). Gathers es p i n out lt e is (i + 1) a o) (sym w.count-is)
           (sym (w.edges-is ∙ ap (λ (z : ℕ). set out n z) (sym (get_or-take e.count e.edges (length p) 0 past))))
           (gather_yes es p i n out lt e is c.loop-journey.invariant
           (let l = c.requires in let k = c.loop-journey.invariant.0 in omega arith)
           (starts_so e p past starts)
           (let v = long e in omega (arith, v, past)))
-      | goal.else-goes-on w ↦
+      | goal.else-goes_on w ↦
           subst₂ (λ (a : ℕ) (o : List ℕ). Gathers es p i n out lt e is (i + 1) a o) (sym w.count-is) (sym w.edges-is)
-          (gather_no es p i n out lt e is c.loop-journey.invariant (no_next e p w.if-goes-on.ensures))
+          (gather_no es p i n out lt e is c.loop-journey.invariant (no_next e p w.if-goes_on.ensures))
     ]
 
 pub returns : goal.returns

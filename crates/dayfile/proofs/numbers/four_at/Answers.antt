@@ -3,4 +3,4 @@ use Rattle.dayformat.proofs.Cuts.{four_bytes}
 use Rattle.dayfile.proofs.numbers.four_at.Goals as goal
 
 pub returns : goal.returns
-returns c = c.from-four.ensures ∙ sym (four_bytes c.args.part.now c.args.at c.requires)
+returns c = c.from_four.ensures ∙ sym (four_bytes c.args.part.now c.args.at c.requires)

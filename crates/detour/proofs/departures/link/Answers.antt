@@ -20,10 +20,10 @@ returns-in-Some g c =
           leads within.0 within.1 (omega (arith, within.1)) (omega (arith, within.0, law.few));
     }
 
-pub returns-in-default : goal.returns-in-default
-returns-in-default g c =
+pub returns-in_default : goal.returns-in_default
+returns-in_default g c =
     record {
       same = refl;
       after = λ k e h.
-          group_none (subst (λ j. Grouped (g.N.Network.meaning c.args.network.now) j c.args.departures.now.first c.args.departures.now.next) e h) (sym c.in-default.ensures);
+          group_none (subst (λ j. Grouped (g.N.Network.meaning c.args.network.now) j c.args.departures.now.first c.args.departures.now.next) e h) (sym c.in_default.ensures);
     }

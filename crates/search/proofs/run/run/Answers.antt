@@ -8,7 +8,7 @@ use Rattle.search.proofs.run.run.Goals as goal
 pub returns : goal.returns
 returns g c =
     let z = c.new-search in
-    let s = c.send-all in
+    let s = c.send_all in
     let mean = g.N.Network.meaning in
     let ts = turns c.args.calls.now s.new.answers in
     let old = z.result in

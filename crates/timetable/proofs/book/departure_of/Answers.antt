@@ -6,7 +6,7 @@ use Rattle.timetable.proofs.book.departure_of.Goals as goal
 
 pub returns : goal.returns
 returns c = record {
-  answer = c.round-up.ensures;
-  law = subst (EarliestFrom c.args.l c.args.instant) (sym c.round-up.ensures) (is_earliest c.args.l c.args.instant c.requires.2);
-  within = let e = c.round-up.ensures in grind (arith, nat_tests);
+  answer = c.round_up.ensures;
+  law = subst (EarliestFrom c.args.l c.args.instant) (sym c.round_up.ensures) (is_earliest c.args.l c.args.instant c.requires.2);
+  within = let e = c.round_up.ensures in grind (arith, nat_tests);
 }

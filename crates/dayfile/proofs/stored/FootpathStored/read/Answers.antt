@@ -4,4 +4,4 @@ use Rattle.dayfile.proofs.stored.FootpathStored.read.Goals as goal
 
 pub returns : goal.returns
 returns c = let b = c.args.part.now in
-    record_is b _ _ (omega arith) c.requires.mark (c.four-at.ensures ∙ sym (last_part b 4 4 c.requires.whole))
+    record_is b _ _ (omega arith) c.requires.mark (c.four_at.ensures ∙ sym (last_part b 4 4 c.requires.whole))

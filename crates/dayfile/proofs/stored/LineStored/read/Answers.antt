@@ -5,4 +5,4 @@ use Rattle.dayfile.proofs.stored.LineStored.read.Goals as goal
 pub returns : goal.returns
 returns c = let b = c.args.part.now in
     record_is b _ _ (omega arith) c.requires.mark
-    (part_and b 4 4 _ _ c.four-at.ensures (part_and b 8 4 _ _ c.four-at-2.ensures (part_and b 12 4 _ _ c.four-at-3.ensures (c.four-at-4.ensures ∙ sym (last_part b 16 4 c.requires.whole)))))
+    (part_and b 4 4 _ _ c.four_at.ensures (part_and b 8 4 _ _ c.four_at-2.ensures (part_and b 12 4 _ _ c.four_at-3.ensures (c.four_at-4.ensures ∙ sym (last_part b 16 4 c.requires.whole)))))

@@ -6,8 +6,8 @@ use Rattle.entries.proofs.entry.Entries.next_edges.Goals as goal
 
 pub returns : goal.returns
 returns c = record {
-  few = c.gather-next-edges.ensures.few;
+  few = c.gather_next_edges.ensures.few;
   answer = λ x.
-      subst (λ (k : ℕ). In x (take c.gather-next-edges.result c.gather-next-edges.new.edges) ↔ NextEdge (λ y. In y (all_edges (take k c.args.self.now.list))) c.args.beginning.now x)
-      (omega arith) (c.gather-next-edges.ensures.answer x);
+      subst (λ (k : ℕ). In x (take c.gather_next_edges.result c.gather_next_edges.new.edges) ↔ NextEdge (λ y. In y (all_edges (take k c.args.self.now.list))) c.args.beginning.now x)
+      (omega arith) (c.gather_next_edges.ensures.answer x);
 }

@@ -9,7 +9,7 @@ returns c =
     let ns = take s.held s.list in
     let whole = s.whole in
     let few = s.few in
-    let e : c.delay-in.result ≡ seconds_of ns c.args.edge = search rules in
+    let e : c.delay_in.result ≡ seconds_of ns c.args.edge = search rules in
     record {
       answer = e;
       law = subst (TheNotice ns c.args.edge) (sym e) (the_notice ns c.args.edge (once_front s.list s.held (omega arith) s.once));

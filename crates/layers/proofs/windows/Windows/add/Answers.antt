@@ -7,7 +7,7 @@ use Rattle.layers.proofs.windows.Windows.add.Goals as goal
 pub push-requires : goal.push-requires
 push-requires c =
     let s = c.args.self.now in
-    let fit = c.in-ok-allow.ensures.answer in
+    let fit = c.in_ok-allow.ensures.answer in
     let whole = s.whole in
     let few = s.few in (
       elim (cases_lt s.held 16) [ inl lt ↦ lt | inr ge ↦ absurd (fit TooManyWindows (let l = length-take-le s.held s.list (omega arith) in omega arith)) ],

@@ -13,7 +13,7 @@ returns-in-Some g c =
     let l = c.if-self-ge16.false in
     let room : length (listed s.entries) < 16 = omega arith in
     let h = c.in-Some.ensures in
-    let b = c.first-unlisted.new.buffer in
+    let b = c.first_unlisted.new.buffer in
     record {
       same = (refl, refl);
       answer = λ k. h.answer k.simple;

@@ -14,11 +14,11 @@ returns g c =
     let room : length (listed s.entries) < 16 = omega arith in
     let j = c.in-Some.ensures.1 in
     let new-one = c.if-contains.ensures in
-    let entry = c.struck-entry.result in
+    let entry = c.struck_entry.result in
     let e : listed c.enter.new.entries ≡ listed s.entries ++ (es ∷ []) =
-    c.enter.ensures.listed ∙ ap (λ (z : List ℕ). listed s.entries ++ (z ∷ [])) c.struck-entry.ensures.edges in
+    c.enter.ensures.listed ∙ ap (λ (z : List ℕ). listed s.entries ++ (z ∷ [])) c.struck_entry.ensures.edges in
     let f : given_of c.enter.new.entries ≡ given_of s.entries =
-    c.enter.ensures.given ∙ ap (λ (b : Bool). given_of s.entries ++ as_given b entry.arrival (edges_of entry)) c.struck-entry.ensures.given ∙ append-nil (given_of s.entries) in
+    c.enter.ensures.given ∙ ap (λ (b : Bool). given_of s.entries ++ as_given b entry.arrival (edges_of entry)) c.struck_entry.ensures.given ∙ append-nil (given_of s.entries) in
     record {
       same = (refl, refl);
       answer = (c.in-Some.arrival, record { simple = j; not_listed = new-one });
