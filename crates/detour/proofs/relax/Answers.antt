@@ -17,7 +17,7 @@ loop-edge-init g c =
     (omega (arith, n.most), (λ lt. n.leaves (omega arith)), skips (none_tried _) n)
 
 -- the next edge that leaves the stop
-ahead : (g : given.Over) (c : goal.After-edge-in-loop-edge·1 g) → LeastFrom (g.N.Network.meaning c.args.departures.now.network.now) c.args.stop (c.loop-edge.edge + 1) (get_or c.args.departures.now.next c.loop-edge.edge 0)
+ahead : (g : given.Over) (c : goal.After-edge-in-loop-edge-1 g) → LeastFrom (g.N.Network.meaning c.args.departures.now.network.now) c.args.stop (c.loop-edge.edge + 1) (get_or c.args.departures.now.next c.loop-edge.edge 0)
 ahead g c = let h = c.loop-edge.invariant.1 c.loop-edge-test.true in c.requires.nexts c.args.stop c.loop-edge.edge h.0 (omega arith) h.1
 
 pub loop-edge-smaller : goal.loop-edge-smaller

@@ -16,7 +16,7 @@ pub returns-then-step-stop : goal.returns-then-step-stop
 returns-then-step-stop g c =
     let m = g.N.Network.meaning c.args.network.now in
     let es = c.args.edges.now in
-    let k = c.loop-edge.edge_index in
+    let k = c.loop-edge.edge-index in
     let e = c.in-Ok.step in
     let h = c.in-Ok.ensures in
     let here = c.loop-edge.invariant in
@@ -34,7 +34,7 @@ pub returns-in-Err : goal.returns-in-Err
 returns-in-Err g c =
     let m = g.N.Network.meaning c.args.network.now in
     let es = c.args.edges.now in
-    let k = c.loop-edge.edge_index in
+    let k = c.loop-edge.edge-index in
     no_stop m c.args.question.now es k c.loop-edge.behind c.loop-edge.stop c.loop-edge.instant c.loop-edge.invariant c.loop-edge-test.true
     (λ w r st. absurd (not_taken m c.loop-edge.stop c.loop-edge.instant (get_or es k 0) _ c.in-Err.ensures w r st))
 
@@ -42,7 +42,7 @@ pub loop-edge-preserved : goal.loop-edge-preserved
 loop-edge-preserved g c =
     let m = g.N.Network.meaning c.args.network.now in
     let es = c.args.edges.now in
-    let k = c.loop-edge.edge_index in
+    let k = c.loop-edge.edge-index in
     let e = c.in-Ok.step in
     let h = c.in-Ok.ensures in
     let st : Takes m c.loop-edge.stop c.loop-edge.instant (get_or es k 0) e.to e.arrival =
@@ -55,5 +55,5 @@ returns g c =
     let here = c.loop-edge.invariant in (
       here.behind,
       subst (λ (z : List ℕ). Through (g.N.Network.meaning c.args.network.now) [] c.args.question.now.origin c.args.question.now.start z here.behind c.loop-edge.stop c.loop-edge.instant)
-          (take_all c.loop-edge.edge_index c.args.edges.now c.loop-edge-test.false) here.through,
+          (take_all c.loop-edge.edge-index c.args.edges.now c.loop-edge-test.false) here.through,
     )

@@ -3,11 +3,11 @@ use Rattle.dayformat.specs.Layout.{size}
 use Rattle.dayfile.proofs.Lists.{next_place, record_within, record_whole, record_marked, read_more, kept_more}
 use Rattle.dayfile.proofs.reading.read_all.Goals as goal
 
-pub overflow-add-at : goal.overflow-add-at
-overflow-add-at g c = let e = record_within c.args.file.now g.T.Stored.kind c.args.from c.args.n c.loop-i.i c.loop-i.at c.width-width.result c.requires.stand c.loop-i-test.true c.loop-i.invariant.0 c.width-width.ensures in search rules
+pub overflow_add-at : goal.overflow_add-at
+overflow_add-at g c = let e = record_within c.args.file.now g.T.Stored.kind c.args.from c.args.n c.loop-i.i c.loop-i.at c.width-width.result c.requires.stand c.loop-i-test.true c.loop-i.invariant.0 c.width-width.ensures in search rules
 
-pub slice-bounds-read-end : goal.slice-bounds-read-end
-slice-bounds-read-end g c = record_within c.args.file.now g.T.Stored.kind c.args.from c.args.n c.loop-i.i c.loop-i.at c.width-width.result c.requires.stand c.loop-i-test.true c.loop-i.invariant.0 c.width-width.ensures
+pub slice_bounds-read-end : goal.slice_bounds-read-end
+slice_bounds-read-end g c = record_within c.args.file.now g.T.Stored.kind c.args.from c.args.n c.loop-i.i c.loop-i.at c.width-width.result c.requires.stand c.loop-i-test.true c.loop-i.invariant.0 c.width-width.ensures
 
 pub read-requires : goal.read-requires
 read-requires g c = record {
@@ -15,8 +15,8 @@ read-requires g c = record {
   mark = record_marked c.args.file.now g.T.Stored.kind c.args.from c.args.n c.loop-i.i c.loop-i.at c.width-width.result c.requires.stand c.loop-i-test.true c.loop-i.invariant.0 c.width-width.ensures;
 }
 
-pub overflow-add-at-in-loop-i : goal.overflow-add-at-in-loop-i
-overflow-add-at-in-loop-i g c = let e = record_within c.args.file.now g.T.Stored.kind c.args.from c.args.n c.loop-i.i c.loop-i.at c.width-width.result c.requires.stand c.loop-i-test.true c.loop-i.invariant.0 c.width-width.ensures in search rules
+pub overflow_add-at-in-loop-i : goal.overflow_add-at-in-loop-i
+overflow_add-at-in-loop-i g c = let e = record_within c.args.file.now g.T.Stored.kind c.args.from c.args.n c.loop-i.i c.loop-i.at c.width-width.result c.requires.stand c.loop-i-test.true c.loop-i.invariant.0 c.width-width.ensures in search rules
 
 pub loop-i-preserved : goal.loop-i-preserved
 loop-i-preserved g c = let i = c.loop-i.invariant in let w = size g.T.Stored.kind in (
