@@ -197,12 +197,12 @@ fn reading(rt: HostRuntime) -> Result<(), Fail> {
     let Ok(Record::Footpath(part)) = reader.next_record() else {
         return Err(Fail::new("no footpath"));
     };
-    assert!(rt; part == b"FP\x01\x02\x00\x00\x00\xF0");
+    assert!(rt; part == b"FP\x01\x02\x00\x00\x00\xF0".as_slice());
     for _ in 0..3 {
         let Ok(Record::End(part)) = reader.next_record() else {
             return Err(Fail::new("no end mark"));
         };
-        assert!(rt; part == b"EN");
+        assert!(rt; part == b"EN".as_slice());
     }
     let mut reader = Reader::new(b"FPabcdefCNabcdefghijkl");
     let _ = reader.next_record();

@@ -18,6 +18,7 @@ use refusals::Refusal;
 use search::calls::{Answer, Call};
 use search::run::run;
 use shown::print_journey;
+use std::process::ExitCode;
 use timetable::table::DayTable;
 
 // The table under the gate hours and the late notices that were asked for.
@@ -60,10 +61,12 @@ fn answer(rt: &HostRuntime) -> Result<(), Failure> {
     list(rt, network, question)
 }
 
-fn main(rt: HostRuntime) -> Result<(), Failure> {
-    let result = answer(&rt);
-    if let Err(failure) = &result {
-        let _ = eprintln!(rt; "{failure}");
+fn main(rt: HostRuntime) -> ExitCode {
+    match answer(&rt) {
+        Ok(()) => ExitCode::SUCCESS,
+        Err(failure) => {
+            let _ = eprintln!(rt; "{failure}");
+            ExitCode::FAILURE
+        }
     }
-    result
 }
