@@ -1,7 +1,7 @@
 -- What the detour at one place of the entries comes to.
-use Rattle.std.proofs.Common.{◌≡◌, ℕ, ◌+◌, ◌-◌, ◌<◌, ◌≤◌, ◌≢◌, ◌⊎◌, ◌↔◌, List, [], ◌∷◌, ◌++◌, length, take, Some, None, Option, sym, refl, ap, ◌∙◌, subst, inl, inr, arith, length-append}
+use Rattle.std.proofs.Common.{◌≡◌, ℕ, ◌+◌, ◌-◌, ◌<◌, ◌≤◌, ◌≢◌, ◌↔◌, List, [], ◌∷◌, ◌++◌, length, take, Some, None, Option, sym, subst, inl, inr, arith, length-append}
 use Rattle.std.proofs.lemmas.List.{length-take-le}
-use Rattle.networks.specs.Networks.{Meaning, Lawful, day_end}
+use Rattle.networks.specs.Networks.{Meaning, Lawful}
 use Rattle.refusals.specs.declared.DetourRefusal.{DetourRefusal}
 use Rattle.refusals.specs.declared.DetourRefusal.TheVariants.{StopsUnfit, InstantsUnfit, NoDetour}
 use Rattle.stops.specs.declared.StopSet.{StopSet}

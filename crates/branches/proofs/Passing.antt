@@ -1,8 +1,8 @@
 -- The way from place to place: along an entry, and from entry to entry.
-use Rattle.std.proofs.Common.{◌≡◌, ℕ, zero, suc, ◌+◌, ◌-◌, ◌<◌, ◌≤◌, Bool, true, false, ◌≢◌, ◌⊎◌, ◌↔◌, List, [], ◌∷◌, ◌++◌, length, get_or, take, drop, Some, None, Err, Option, sym, refl, ap, ◌∙◌, subst, inl, inr, add-one, arith, take-append-drop}
+use Rattle.std.proofs.Common.{◌≡◌, ℕ, ◌+◌, ◌-◌, ◌<◌, Bool, true, false, ◌≢◌, ◌⊎◌, ◌↔◌, List, [], ◌∷◌, ◌++◌, length, get_or, take, drop, Some, None, Err, Option, sym, refl, ap, ◌∙◌, subst, inl, inr, add-one, arith, take-append-drop}
 use mathlib.Core.List.{cons≢nil}
 use native.Mathlib.Decide.{dec_lt, ℕ_discrete}
-use Rattle.std.proofs.lemmas.List.{take_all, take_more, drop_more, nil_from_length}
+use Rattle.std.proofs.lemmas.List.{take_more, drop_more, nil_from_length}
 use Rattle.std.proofs.lemmas.Bool.{both_ways}
 use Rattle.networks.specs.Networks.{Meaning}
 use Rattle.stops.specs.declared.StopSet.{StopSet}

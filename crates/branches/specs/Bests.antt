@@ -1,5 +1,5 @@
 -- The best journey so far, and the places of the entries that are worked out.
-use Rattle.std.specs.Prelude.{◌≡◌, ℕ, ◌<◌, ◌≤◌, Bool, true, false, ◌⊎◌, ◌↔◌, List, [], ◌∷◌, ◌++◌, length, take, drop, Some, None, Option}
+use Rattle.std.specs.Prelude.{◌≡◌, ℕ, ◌<◌, ◌≤◌, Bool, true, false, ◌⊎◌, ◌↔◌, List, [], ◌++◌, length, take, drop, Some, None, Option}
 use Rattle.networks.specs.Networks.{Meaning}
 use Rattle.stops.specs.declared.StopSet.{StopSet}
 use Rattle.stops.specs.Sets.{Holds}

@@ -1,6 +1,5 @@
 -- Records of one kind read from a file, and written into a buffer, one after another.
-use Rattle.std.proofs.Common.{◌≡◌, ℕ, ◌+◌, ◌-◌, ◌*◌, ◌<◌, ◌≤◌, List, [], ◌∷◌, ◌++◌, length, get_or, take, drop, set, replicate, sym, refl, ap, ◌∙◌, subst, mul-le-mul_left, mul-one, mul-add, arith, take-add}
-use lib.Seq.{paste}
+use Rattle.std.proofs.Common.{◌≡◌, ℕ, ◌+◌, ◌-◌, ◌*◌, ◌<◌, ◌≤◌, List, [], ◌++◌, length, take, drop, set, replicate, sym, ap, ◌∙◌, subst, mul-le-mul_left, mul-one, mul-add, arith, take-add}
 use Rattle.std.specs.List.{flat_map}
 use Rattle.std.proofs.lemmas.List.{drop-set-lt, drop-drop, length-drop, take_more_set, flat_map_more, length-take-le, take-take}
 use Rattle.dayformat.specs.declared.Kind.{Kind}

@@ -1,5 +1,5 @@
 -- The records read from a whole file are those that it encodes.
-use Rattle.std.proofs.Common.{◌≡◌, ℕ, ◌+◌, ◌*◌, List, take, drop, sym, refl, ap, ◌∙◌}
+use Rattle.std.proofs.Common.{◌≡◌, ℕ, ◌+◌, ◌*◌, List, take, drop, sym, ap, ◌∙◌}
 use Rattle.std.specs.List.{flat_map}
 use Rattle.timetable.specs.declared.records.Connection.{Connection}
 use Rattle.timetable.specs.declared.records.Footpath.{Footpath}

@@ -1,5 +1,5 @@
 -- A file is checked record by record.
-use Rattle.std.proofs.Common.{◌≡◌, ℕ, zero, suc, ◌+◌, ◌*◌, ◌<◌, ◌≤◌, ◌⊎◌, List, [], ◌∷◌, ◌++◌, length, get_or, take, drop, replicate, Some, None, sum_by, sym, refl, ap, ◌∙◌, subst, inl, inr, mul-zero, mul-suc, arith}
+use Rattle.std.proofs.Common.{◌≡◌, ℕ, zero, suc, ◌+◌, ◌*◌, ◌<◌, ◌≤◌, ◌⊎◌, List, [], ◌∷◌, ◌++◌, length, replicate, Some, None, sum_by, sym, refl, ap, ◌∙◌, subst, inl, inr, mul-zero, mul-suc, arith}
 use Rattle.std.proofs.lemmas.List.{append-nil, append_assoc, replicate_more}
 use Rattle.std.proofs.lemmas.List.Sums.{sum_by-append, sum_by-cons}
 use Rattle.refusals.specs.Verdicts.{position}
@@ -7,7 +7,7 @@ use Rattle.dayformat.specs.declared.Kind.{Kind}
 use Rattle.dayformat.specs.declared.Kind.TheVariants as kind
 use Rattle.dayformat.specs.declared.Lengths.{Lengths}
 use Rattle.dayformat.specs.Layout.{layout, size, step, Mark}
-use Rattle.dayformat.specs.Faults.{Stand, Later, Full, Next, Fault, count}
+use Rattle.dayformat.specs.Faults.{Stand, Later, Full, Next, count}
 use Rattle.dayformat.specs.Whole.{Fits, Added, arranged}
 use Rattle.dayformat.proofs.Progress.{Checked}
 use Rattle.dayformat.proofs.Stands.{stand_push}

@@ -1,5 +1,5 @@
 -- A file that encodes lists is whole, and a whole file encodes lists.
-use Rattle.std.proofs.Common.{◌≡◌, ℕ, ◌+◌, ◌-◌, ◌*◌, ◌<◌, ◌≤◌, List, [], ◌∷◌, ◌++◌, length, take, drop, replicate, sym, refl, ap, ◌∙◌, subst, arith}
+use Rattle.std.proofs.Common.{◌≡◌, ℕ, ◌+◌, ◌*◌, ◌<◌, ◌≤◌, List, [], ◌∷◌, ◌++◌, length, take, drop, replicate, sym, refl, ap, ◌∙◌, subst, arith}
 use Rattle.std.specs.List.{flat_map}
 use Rattle.std.proofs.lemmas.List.{append-nil, append_assoc, drop_at, drop-drop, length-drop, length-append, take_all}
 use Rattle.refusals.specs.declared.FileRefusal.{FileRefusal}
@@ -12,7 +12,7 @@ use Rattle.dayformat.specs.declared.Lengths.{Lengths}
 use Rattle.dayformat.specs.Layout.{layout, size, Mark}
 use Rattle.dayformat.specs.Code.{coded, connection_bytes, footpath_bytes, line_bytes, encode}
 use Rattle.dayformat.specs.Faults.{Stand, Fault}
-use Rattle.dayformat.specs.Whole.{Fits, Whole, arranged}
+use Rattle.dayformat.specs.Whole.{Fits, Whole}
 use Rattle.dayformat.proofs.Progress.{Checked}
 use Rattle.dayformat.proofs.Cuts.{next_part}
 use Rattle.dayformat.proofs.Stands.{stand_run}

@@ -1,5 +1,5 @@
 -- Whole records one after another: the marks of a file tell which they are, and where.
-use Rattle.std.proofs.Common.{◌≡◌, ℕ, zero, suc, ◌+◌, ◌*◌, ◌<◌, ◌≤◌, cond, eqb, List, [], ◌∷◌, ◌++◌, length, get_or, take, drop, replicate, sym, refl, ap, ◌∙◌, subst, mul-zero, mul-suc, arith}
+use Rattle.std.proofs.Common.{◌≡◌, ℕ, zero, suc, ◌+◌, ◌*◌, ◌<◌, ◌≤◌, cond, eqb, List, [], ◌∷◌, ◌++◌, length, get_or, replicate, sym, refl, ap, ◌∙◌, subst, mul-zero, mul-suc, arith}
 use Rattle.dayformat.specs.declared.Kind.{Kind}
 use Rattle.dayformat.specs.declared.Kind.TheVariants as kind
 use Rattle.dayformat.specs.Layout.{layout, size, Mark}

@@ -1,5 +1,5 @@
 -- What a turn of the checking loop finds, from what the reader handed out.
-use Rattle.std.proofs.Common.{◌≡◌, ℕ, ◌+◌, List, length, Some, None, sym, refl, ap, ◌∙◌, subst, arith, Bor}
+use Rattle.std.proofs.Common.{◌≡◌, ℕ, ◌+◌, List, Some, None, sym, refl, ◌∙◌, subst, arith, Bor}
 use Rattle.refusals.specs.Verdicts.{First}
 use Rattle.refusals.specs.declared.Refusal.{Refusal}
 use Rattle.refusals.specs.declared.Refusal.TheVariants.{OfFile}

@@ -1,8 +1,8 @@
 -- The round trips, from what pack and unpack promise.
-use Rattle.std.proofs.Common.{◌≡◌, ℕ, suc, ◌+◌, ◌-◌, ◌<◌, ◌≤◌, ◌⊎◌, List, [], ◌∷◌, ◌++◌, length, take, drop, Some, None, Ok, Err, Result, sym, refl, ap, ◌∙◌, subst, inl, inr, arith}
+use Rattle.std.proofs.Common.{◌≡◌, ℕ, suc, ◌-◌, ◌<◌, ◌≤◌, List, [], ◌∷◌, length, take, drop, Ok, Err, Result, sym, refl, ap, ◌∙◌, subst, inl, inr, arith}
 use Rattle.std.proofs.lemmas.List.{take_at, length-take-le}
 use Rattle.refusals.specs.Told.{told}
-use Rattle.refusals.specs.Verdicts.{Verdict, First, Precedes, position, turn}
+use Rattle.refusals.specs.Verdicts.{Verdict, First, Precedes, turn}
 use Rattle.refusals.specs.declared.Refusal.{Refusal}
 use Rattle.refusals.specs.declared.Refusal.TheVariants.{OfFile}
 use Rattle.refusals.specs.declared.FileRefusal.{FileRefusal}

@@ -1,9 +1,9 @@
 -- One edge more in the groups.
-use Rattle.std.proofs.Common.{◌≡◌, ℕ, ◌+◌, ◌<◌, ◌≤◌, ◌≢◌, ◌⊎◌, List, length, get_or, set, Some, None, Option, sym, refl, ap, ◌∙◌, subst, inl, inr, arith, get_or-set_other, get_or-set_same}
+use Rattle.std.proofs.Common.{◌≡◌, ℕ, ◌+◌, ◌<◌, List, length, get_or, set, Some, None, sym, ap, subst, inl, inr, arith, get_or-set_other, get_or-set_same}
 use native.Mathlib.Decide.{dec_lt}
 use Rattle.std.proofs.lemmas.Bool.{cases_eq, cases_lt}
 use Rattle.networks.specs.Networks.{Meaning, Lawful, Stops}
-use Rattle.journey_laws.specs.Arrivals.{Hop, Relaxed}
+use Rattle.journey_laws.specs.Arrivals.{Relaxed}
 use Rattle.detour.specs.Departing.{LeastFrom, Grouped}
 
 same_start : (m : Meaning) (e : ℕ) {s y x z : ℕ} → m.ends e ≡ Some (s, y) → m.ends e ≡ Some (x, z) → s ≡ x

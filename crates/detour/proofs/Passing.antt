@@ -1,5 +1,5 @@
 -- The edges that leave a stop, tried one by one until one can begin a journey.
-use Rattle.std.proofs.Common.{◌≡◌, ℕ, ◌+◌, ◌<◌, ◌≤◌, ◌≢◌, ◌⊎◌, List, [], ◌∷◌, sym, refl, subst, inl, inr, arith}
+use Rattle.std.proofs.Common.{ℕ, ◌+◌, ◌<◌, ◌≤◌, ◌≢◌, List, [], ◌∷◌, sym, subst, inl, inr, arith}
 use Rattle.std.proofs.lemmas.Bool.{cases_eq, cases_lt}
 use Rattle.networks.specs.Networks.{Meaning, Lawful}
 use Rattle.journey_laws.specs.Ways.{Nothing, Also, Onward, Leading, Usable, Chosen}

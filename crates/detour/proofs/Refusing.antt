@@ -1,10 +1,9 @@
 -- Between fit stops, at fit instants, a detour is refused where none exists, and only there.
-use Rattle.std.proofs.Common.{◌≡◌, ℕ, ◌≤◌, true, false, ◌≢◌, ◌⊎◌, List, [], ◌∷◌, Ok, Err, Result, refl, inl, inr, arith}
+use Rattle.std.proofs.Common.{◌≡◌, ℕ, ◌≤◌, false, ◌≢◌, List, [], ◌∷◌, Ok, Err, refl, inl, inr, arith}
 use Rattle.std.proofs.lemmas.Bool.{both_ways}
 use Rattle.networks.specs.Networks.{Meaning, day_end}
 use Rattle.refusals.specs.Told.{told}
 use Rattle.refusals.specs.Verdicts.{Precedes, Verdict}
-use Rattle.refusals.specs.declared.Refusal.{Refusal}
 use Rattle.refusals.specs.declared.Refusal.TheVariants.{OfDetour}
 use Rattle.refusals.specs.declared.DetourRefusal.{DetourRefusal}
 use Rattle.refusals.specs.declared.DetourRefusal.TheVariants.{StopsUnfit, InstantsUnfit, NoDetour}

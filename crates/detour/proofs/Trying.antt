@@ -1,5 +1,5 @@
 -- One edge more is tried, where the arrivals stand in a list.
-use Rattle.std.proofs.Common.{◌≡◌, ℕ, ◌+◌, ◌<◌, ◌≤◌, List, length, get_or, set, ap, arith, get_or-set_other, get_or-set_same}
+use Rattle.std.proofs.Common.{ℕ, ◌+◌, ◌<◌, ◌≤◌, List, length, get_or, set, ap, arith, get_or-set_other, get_or-set_same}
 use Rattle.networks.specs.Networks.{Meaning}
 use Rattle.journey_laws.specs.Arrivals.{Hop, Relaxed}
 use Rattle.journey_laws.proofs.Taking.{same_stop, same_time}

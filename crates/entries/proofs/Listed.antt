@@ -1,5 +1,5 @@
 -- The entries one by one: which are listed, and by which edges they go on.
-use Rattle.std.proofs.Common.{◌≡◌, ℕ, zero, suc, ◌+◌, ◌<◌, ◌≤◌, Bool, true, false, ◌≢◌, ◌⊎◌, ◌↔◌, List, [], ◌∷◌, ◌++◌, length, get_or, take, set, sym, refl, ap, ◌∙◌, subst, inl, inr, add-one, arith, length-take, length-take-le, get_or-take, take-take}
+use Rattle.std.proofs.Common.{◌≡◌, ℕ, zero, suc, ◌+◌, ◌<◌, ◌≤◌, ◌≢◌, ◌⊎◌, ◌↔◌, List, [], ◌∷◌, ◌++◌, length, get_or, take, set, sym, refl, ap, ◌∙◌, subst, inl, inr, add-one, arith, length-take, length-take-le, get_or-take, take-take}
 use Rattle.std.proofs.lemmas.List.{take_more, take_more_set}
 use Rattle.journeys.specs.Journeys.{In}
 use Rattle.journey_laws.specs.Branching.{NextEdge}

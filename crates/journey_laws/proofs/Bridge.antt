@@ -1,5 +1,5 @@
 -- The ways of the proofs are the journeys of the definitions.
-use Rattle.std.proofs.Common.{◌≡◌, ℕ, ◌⊎◌, ◌↔◌, List, [], ◌∷◌, sym, refl, subst, inl, inr}
+use Rattle.std.proofs.Common.{◌≡◌, ℕ, ◌↔◌, List, [], ◌∷◌, sym, refl, subst, inl, inr}
 use Rattle.networks.specs.Networks.{Meaning}
 use Rattle.journeys.specs.Journeys.{In, Differ, Visits, last, Leads, Simple, Detour}
 use Rattle.journeys.specs.Rank.{FirstInRank}

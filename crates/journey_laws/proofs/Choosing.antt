@@ -1,5 +1,5 @@
 -- A journey that is chosen edge by edge is the first in rank.
-use Rattle.std.proofs.Common.{◌≡◌, ℕ, ◌≤◌, ◌⊎◌, ◌↔◌, List, [], ◌∷◌, ◌++◌, Some, sym, refl, ◌∙◌, subst, inl, inr, append_assoc, append-nil, le_trans, le_refl, arith}
+use Rattle.std.proofs.Common.{◌≡◌, ℕ, ◌≤◌, ◌↔◌, List, [], ◌∷◌, ◌++◌, Some, refl, subst, inl, inr, append_assoc, append-nil, le_trans, le_refl, arith}
 use Rattle.networks.specs.Networks.{Meaning}
 use Rattle.journeys.specs.Journeys.{Unbarred}
 use Rattle.journeys.specs.Rank.{Before, FirstInRank}

@@ -1,5 +1,5 @@
 -- The theorems, in the words of the question.
-use Rattle.std.proofs.Common.{◌≡◌, ℕ, ◌<◌, ◌≤◌, ◌≢◌, ◌⊎◌, ◌↔◌, List, [], ◌∷◌, ◌++◌, length, take, sym, ◌∙◌, subst, inl, inr}
+use Rattle.std.proofs.Common.{◌≡◌, ℕ, ◌<◌, ◌≤◌, ◌⊎◌, ◌↔◌, List, [], ◌∷◌, ◌++◌, length, take, sym, ◌∙◌, subst, inl, inr}
 use Rattle.networks.specs.Networks.{Meaning, Lawful}
 use Rattle.journeys.specs.declared.question.Question.{Question}
 use Rattle.journeys.specs.Journeys.{In, Simple, Unlisted}

@@ -1,11 +1,11 @@
 -- The first journey in rank begins with the least edge that can begin one of the least arrival, and goes on by the first in rank of the rest.
-use Rattle.std.proofs.Common.{◌≡◌, ℕ, ◌<◌, ◌≤◌, ◌≢◌, ◌⊎◌, ◌↔◌, List, [], ◌∷◌, sym, refl, ◌∙◌, subst, inl, inr, le_trans, arith}
+use Rattle.std.proofs.Common.{◌≡◌, ℕ, ◌<◌, ◌≤◌, ◌↔◌, List, [], ◌∷◌, sym, ◌∙◌, inl, inr, le_trans, arith}
 use native.Mathlib.Decide.{dec_lt}
 use Rattle.networks.specs.Networks.{Meaning, Lawful}
 use Rattle.journeys.specs.Walking.{Takes}
 use Rattle.journeys.specs.Journeys.{Unbarred}
 use Rattle.journeys.specs.Rank.{Before, FirstInRank}
-use Rattle.journey_laws.specs.Ways.{Nothing, Also, Way, Walk, Onward, Leading, Usable, Chosen}
+use Rattle.journey_laws.specs.Ways.{Nothing, Also, Walk, Onward, Usable, Chosen}
 use Rattle.journey_laws.proofs.Taking.{same_stop, same_time}
 use Rattle.journey_laws.proofs.Ways.{shorten}
 

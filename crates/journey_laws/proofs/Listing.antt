@@ -1,5 +1,5 @@
 -- Being one of a list, by places.
-use Rattle.std.proofs.Common.{◌≡◌, ℕ, zero, suc, ◌<◌, Bool, true, false, ◌⊎◌, List, [], ◌∷◌, length, get_or, sym, refl, inl, inr, arith}
+use Rattle.std.proofs.Common.{◌≡◌, ℕ, zero, suc, ◌<◌, List, [], ◌∷◌, length, get_or, sym, inl, inr, arith}
 use Rattle.std.specs.List.{ContainsAt as Has}
 use Rattle.journeys.specs.Journeys.{In}
 

@@ -1,5 +1,5 @@
 -- The next edges of the entries that begin with p, as a loop gathers them; and where a list of edges goes wrong.
-use Rattle.std.proofs.Common.{◌≡◌, ℕ, ◌+◌, ◌<◌, ◌⊎◌, ◌↔◌, List, [], ◌∷◌, ◌++◌, length, get_or, take, sym, refl, ap, ap₂, inl, inr, arith}
+use Rattle.std.proofs.Common.{◌≡◌, ℕ, ◌<◌, ◌⊎◌, ◌↔◌, List, [], ◌∷◌, ◌++◌, length, get_or, take, sym, refl, ap, ap₂, inl, inr, arith}
 use Rattle.networks.specs.Networks.{Meaning}
 use Rattle.journeys.specs.Walking.{Takes}
 use Rattle.journeys.specs.Journeys.{In}

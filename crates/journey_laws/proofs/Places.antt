@@ -1,5 +1,5 @@
 -- The search for the next journey goes through the places of the entries.
-use Rattle.std.proofs.Common.{◌≡◌, ℕ, ◌+◌, ◌<◌, ◌≢◌, ◌⊎◌, List, [], ◌∷◌, ◌++◌, length, take, refl, ap, ap₂, inl, inr, arith}
+use Rattle.std.proofs.Common.{◌≡◌, ℕ, ◌<◌, ◌≢◌, ◌⊎◌, List, [], ◌∷◌, ◌++◌, length, take, refl, ap, ap₂, inl, inr, arith}
 use mathlib.Core.List.{cons≢nil}
 use native.Mathlib.Decide.{ℕ_discrete}
 use Rattle.networks.specs.Networks.{Meaning}

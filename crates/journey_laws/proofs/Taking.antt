@@ -1,5 +1,5 @@
 -- What the laws of a network say of an edge that is taken. All other proofs know the lookup by these alone.
-use Rattle.std.proofs.Common.{◌≡◌, ℕ, ◌<◌, ◌≤◌, ◌≢◌, Some, None, Option, sym, refl, ap, ◌∙◌, subst, arith}
+use Rattle.std.proofs.Common.{◌≡◌, ℕ, ◌<◌, ◌≤◌, Some, None, Option, refl, ap, subst, arith}
 use native.Mathlib.Decide.{dec_lt}
 use Rattle.networks.specs.Networks.{Meaning, Lawful, Stops, InDay, NotBefore, NoLater, day_end}
 use Rattle.journeys.specs.Walking.{Takes}

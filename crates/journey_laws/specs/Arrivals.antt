@@ -2,7 +2,7 @@
 use Rattle.std.specs.Prelude.{◌≡◌, ℕ, ◌<◌, ◌≤◌, Bool, true, false, ◌⊎◌, List, Some, None, Option}
 use Rattle.networks.specs.Networks.{Meaning}
 use Rattle.journeys.specs.Walking.{Takes}
-use Rattle.journey_laws.specs.Ways.{Nothing, Walk, Onward}
+use Rattle.journey_laws.specs.Ways.{Walk, Onward}
 
 -- edge e, taken from stop u at instant t, reaches stop v at instant s; it is not barred, and v is not shut
 pub record Hop (m : Meaning) (Shut Barred : ℕ → Type 0) (u t e v s : ℕ) : Type 0 where

@@ -1,5 +1,5 @@
 -- A walk that goes on by one edge.
-use Rattle.std.proofs.Common.{◌≡◌, ℕ, List, [], ◌∷◌, ◌++◌, Some, Option, refl}
+use Rattle.std.proofs.Common.{ℕ, List, [], ◌∷◌, ◌++◌, Some, Option, refl}
 use Rattle.networks.specs.Networks.{Meaning}
 use Rattle.journeys.specs.Walking.{Takes, Stands, Along}
 

@@ -1,5 +1,5 @@
 -- What holds of each of the first elements of a list holds of the part that they make.
-use Rattle.std.specs.Prelude.{ℕ, zero, suc, ◌<◌, ◌≤◌, List, [], ◌∷◌, take}
+use Rattle.std.specs.Prelude.{ℕ, zero, suc, List, [], ◌∷◌, take}
 use Rattle.std.proofs.Common.{arith}
 use Rattle.std.specs.List.{AllWithin, AllByRecursion as All}
 

@@ -1,5 +1,5 @@
 -- The laws in the forms in which their users meet them.
-use Rattle.std.proofs.Common.{◌≡◌, ℕ, ◌≤◌, Some, None, Option, arith}
+use Rattle.std.proofs.Common.{ℕ, ◌≤◌, Some, None, Option, arith}
 use Rattle.networks.specs.Networks.{NotBefore, NoLater}
 
 pub sooner : (s t : ℕ) (a : Option ℕ) → s ≤ t → NotBefore t a → NotBefore s a

@@ -1,5 +1,5 @@
 -- Where no reason holds a call goes ahead; where there is room and no journey is left, next says so.
-use Rattle.std.proofs.Common.{◌≡◌, ℕ, ◌<◌, ◌≤◌, ◌⊎◌, List, [], ◌∷◌, length, Ok, Err, refl, inl, inr, arith}
+use Rattle.std.proofs.Common.{ℕ, ◌<◌, List, [], ◌∷◌, length, Ok, Err, refl, inl, inr, arith}
 use Rattle.networks.specs.Networks.{Meaning}
 use Rattle.refusals.specs.Told.{told}
 use Rattle.refusals.specs.Verdicts.{Precedes, Verdict}

@@ -1,5 +1,5 @@
 -- One turn more of a run.
-use Rattle.std.proofs.Common.{◌≡◌, ℕ, zero, suc, ◌+◌, ◌<◌, ◌≤◌, ◌⊎◌, List, [], ◌∷◌, ◌++◌, length, get_or, take, drop, set, Ok, Err, sym, refl, ap, ◌∙◌, subst, inl, inr, append_assoc, append-nil, add-one, arith}
+use Rattle.std.proofs.Common.{◌≡◌, ℕ, zero, suc, ◌+◌, ◌<◌, ◌≤◌, ◌⊎◌, List, [], ◌∷◌, ◌++◌, length, get_or, take, set, Ok, Err, sym, refl, ap, ◌∙◌, subst, inl, inr, append_assoc, append-nil, add-one, arith}
 use Rattle.std.proofs.lemmas.Bool.{cases_lt}
 use Rattle.networks.specs.Networks.{Meaning}
 use Rattle.refusals.specs.Verdicts.{Verdict}
@@ -13,8 +13,8 @@ use Rattle.entries.specs.declared.entry.Entries.{Entries}
 use Rattle.entries.specs.Listing.{Journey, listed, given_of}
 use Rattle.search.specs.Reasons.{AgainstStrike}
 use Rattle.search.specs.Sounds.{Ordered, Sound}
-use Rattle.search.specs.Runs.{Ask, Said, Turn, asked, said_by, turns, gives, given_by, Strikes, Lists, Right, Kept, LawAfter, Law}
-use Rattle.search.specs.Runs.{next, again, strike, gave, struck, refused}
+use Rattle.search.specs.Runs.{Ask, Said, Turn, asked, said_by, turns, gives, given_by, Strikes, Lists, Right, LawAfter, Law}
+use Rattle.search.specs.Runs.{strike, struck}
 use Rattle.search.specs.Turning.{Entered, Ran}
 use Rattle.search.specs.declared.calls.Call.{Call}
 use Rattle.search.specs.declared.calls.Answer.{Answer}

@@ -1,5 +1,5 @@
 -- One bit of a word, before and after an `or` with a power of two.
-use Rattle.std.proofs.Common.{◌≡◌, ℕ, suc, ◌+◌, ◌-◌, ◌*◌, ◌/◌, ◌%◌, ◌^◌, ◌<◌, ◌≤◌, Bool, true, false, eqb, ◌≢◌, ◌⊎◌, List, length, get_or, set, sym, refl, ap, ◌∙◌, inl, inr, ⊎_elim, one-mul, pow-suc, arith, get_or-set_other, get_or-set_same}
+use Rattle.std.proofs.Common.{◌≡◌, ℕ, suc, ◌+◌, ◌-◌, ◌*◌, ◌/◌, ◌%◌, ◌^◌, ◌<◌, true, eqb, ◌≢◌, List, length, get_or, set, sym, ap, ◌∙◌, inl, inr, one-mul, pow-suc, arith, get_or-set_other, get_or-set_same}
 use native.Mathlib.Nat.{div-eq_of_lt, mul-mod_left}
 use lib.Bits.{bit_and, bit_or, or_shr, or_mod, or_zero_r, and_mask}
 use Rattle.std.proofs.lemmas.Nat.{pow_below, pow-add, shl-shr, one_shl, mod_below}

@@ -1,5 +1,5 @@
 -- The departure that is computed is the earliest, and a book of lines that fit keeps the laws of a network.
-use Rattle.std.specs.Prelude.{◌≡◌, ℕ, ◌+◌, ◌-◌, ◌*◌, ◌/◌, ◌<◌, ◌≤◌, true, false, List, length, Some, None, Option, nat_le, refl}
+use Rattle.std.specs.Prelude.{◌≡◌, ℕ, ◌+◌, ◌-◌, ◌*◌, ◌/◌, ◌<◌, ◌≤◌, List, length, Some, None, Option, nat_le, refl}
 use Rattle.std.proofs.Common.{sym, subst, inl, inr, div-add-mod', mod-lt, div-lt_iff_lt-mul, mul-le-mul_right, add-mul, one-mul, arith}
 use Rattle.std.proofs.lemmas.Bool.Decides.{nat_tests}
 use Rattle.std.proofs.lemmas.Bool.{cases_Bool, cases_lt, leb-true, leb-false, cond-true, cond-false}

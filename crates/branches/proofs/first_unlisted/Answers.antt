@@ -1,4 +1,4 @@
-use Rattle.std.proofs.Common.{ℕ, List, take, Some, None, Option, sym, refl, subst, arith}
+use Rattle.std.proofs.Common.{ℕ, List, take, None, Option, sym, refl, subst, arith}
 use Rattle.journeys.specs.Journeys.{Unlisted}
 use Rattle.journeys.specs.Rank.{FirstInRank}
 use Rattle.entries.specs.Listing.{listed}

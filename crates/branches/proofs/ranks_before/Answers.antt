@@ -1,4 +1,4 @@
-use Rattle.std.proofs.Common.{◌≡◌, inl, inr, arith}
+use Rattle.std.proofs.Common.{inl, inr, arith}
 use Rattle.std.proofs.lemmas.List.{take_more_same}
 use Rattle.branches.proofs.Ranking.{at_difference, not_before}
 use Rattle.branches.proofs.ranks_before.Goals as goal

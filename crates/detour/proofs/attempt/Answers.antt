@@ -1,4 +1,4 @@
-use Rattle.std.proofs.Common.{◌≡◌, ℕ, ◌+◌, ◌≤◌, get_or, arith}
+use Rattle.std.proofs.Common.{ℕ, ◌+◌, get_or, arith}
 use Rattle.stops.specs.Sets.{Holds}
 use Rattle.journeys.specs.Journeys.{In}
 use Rattle.detour.specs.Departing.{LeastFrom}

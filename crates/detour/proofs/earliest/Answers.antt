@@ -1,8 +1,8 @@
-use Rattle.std.proofs.Common.{◌≡◌, ℕ, ◌<◌, ◌≤◌, List, replicate, Some, sym, ◌∙◌, subst, arith}
+use Rattle.std.proofs.Common.{◌<◌, replicate, Some, sym, ◌∙◌, subst, arith}
 use lib.ListN.{get_or-replicate}
 use Rattle.stops.specs.Sets.{member, Holds}
 use Rattle.journeys.specs.Journeys.{In}
-use Rattle.journey_laws.specs.Ways.{Nothing, Also}
+use Rattle.journey_laws.specs.Ways.{Also}
 use Rattle.journey_laws.specs.Arrivals.{Nearest, Settles, Found}
 use Rattle.journey_laws.proofs.Settling.{far, front_start, front_more, found_enough, found_nearest, found_none, left_falls}
 use Rattle.detour.proofs.Trying.{at}

@@ -1,5 +1,4 @@
-use Rattle.std.proofs.Common.{◌≡◌, ℕ, List, take, Some, sym, refl, subst, arith}
-use Rattle.networks.specs.Networks.{Meaning}
+use Rattle.std.proofs.Common.{ℕ, List, take, Some, sym, refl, subst, arith}
 use Rattle.stops.specs.Sets.{Holds}
 use Rattle.journeys.specs.Journeys.{In}
 use Rattle.journeys.specs.Rank.{FirstInRank}

@@ -1,4 +1,4 @@
-use Rattle.std.proofs.Common.{◌≡◌, ℕ, zero, suc, ◌/◌, ◌%◌, ◌^◌, eqb, List, [], ◌∷◌, get_or, refl, ap, ◌∙◌}
+use Rattle.std.proofs.Common.{◌≡◌, ℕ, zero, suc, ◌/◌, ◌%◌, ◌^◌, eqb, [], ◌∷◌, get_or, refl, ap, ◌∙◌}
 use native.Mathlib.Nat.{zero-div}
 use Rattle.stops.specs.Words.{bit}
 use Rattle.stops.proofs.no_bits.Goals as goal

@@ -1,4 +1,4 @@
-use Rattle.std.proofs.Common.{◌≡◌, ◌<◌, ◌≤◌, ◌∙◌, arith}
+use Rattle.std.proofs.Common.{arith}
 use Rattle.journey_laws.proofs.Entries.{few_edges}
 use Rattle.branches.proofs.Following.{no_way, elsewhere, too_late, is_simple}
 use Rattle.branches.proofs.follow.simple_arrival.Goals as goal

@@ -1,4 +1,4 @@
-use Rattle.std.proofs.Common.{◌≡◌, ◌+◌, ◌<◌, length, sym, refl, subst, arith}
+use Rattle.std.proofs.Common.{sym, refl, subst, arith}
 use Rattle.detour.specs.Departing.{Grouped}
 use Rattle.detour.proofs.Chains.{there, group_none, group_more}
 use Rattle.detour.proofs.departures.link.Goals as goal

@@ -1,4 +1,4 @@
-use Rattle.std.proofs.Common.{◌≡◌, replicate, sym, refl, ◌∙◌, subst}
+use Rattle.std.proofs.Common.{replicate, sym, refl, ◌∙◌, subst}
 use lib.ListN.{get_or-replicate}
 use Rattle.detour.specs.Departing.{Grouped}
 use Rattle.detour.proofs.Chains.{no_group}

@@ -1,4 +1,4 @@
-use Rattle.std.proofs.Common.{◌≡◌, ℕ, ◌+◌, length, drop, sym, ap, subst, arith}
+use Rattle.std.proofs.Common.{ℕ, ◌+◌, length, drop, sym, ap, subst, arith}
 use Rattle.std.proofs.lemmas.List.{drop_all}
 use Rattle.entries.specs.Listing.{all_given, journey_of}
 use Rattle.entries.proofs.Remaining.{Remains, remains_all, when_given, when_struck, found_here, passed, kept}

@@ -1,4 +1,4 @@
-use Rattle.std.proofs.Common.{◌≡◌, ℕ, Some, Option, sym, ◌∙◌, subst, rules}
+use Rattle.std.proofs.Common.{ℕ, Option, subst, rules}
 use Rattle.journeys.specs.Walking.{Stands}
 use Rattle.journeys.proofs.walks.take_edge.Goals as goal
 use Rattle.journeys.proofs.walks.take_edge.Goals.{in-Some-here+else-stop-from, in_default-here}

@@ -1,6 +1,5 @@
-use Rattle.std.proofs.Common.{ℕ, List, get_or, take, Some, None, sym, subst, take_all}
+use Rattle.std.proofs.Common.{get_or, take, None, take_all}
 use Rattle.std.proofs.lemmas.List.{take_more}
-use Rattle.journeys.specs.Walking.{Along}
 use Rattle.journeys.proofs.Longer.{longer}
 use Rattle.journeys.proofs.walks.walk.Goals as goal
 

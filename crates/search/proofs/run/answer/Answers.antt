@@ -1,4 +1,4 @@
-use Rattle.std.proofs.Common.{◌≡◌, List, [], ◌∷◌, take, sym, refl, ap, subst, inl, inr}
+use Rattle.std.proofs.Common.{[], ◌∷◌, sym, refl, ap, subst, inr}
 use Rattle.journeys.specs.declared.question.Question.{Question}
 use Rattle.entries.specs.Listing.{listed}
 use Rattle.search.specs.Sounds.{Sound}

@@ -1,4 +1,4 @@
-use Rattle.std.proofs.Common.{◌≡◌, ap, ◌∙◌, subst}
+use Rattle.std.proofs.Common.{ap, ◌∙◌, subst}
 use Rattle.journeys.specs.declared.question.Question.{Question}
 use Rattle.entries.specs.Listing.{given_of}
 use Rattle.search.specs.Runs.{turns, Law}

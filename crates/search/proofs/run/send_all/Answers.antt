@@ -1,4 +1,4 @@
-use Rattle.std.proofs.Common.{◌≡◌, ℕ, ◌<◌, ◌≤◌, ◌⊎◌, List, length, get_or, take, drop, sym, refl, ◌∙◌, subst, inl, inr, arith, drop-set-lt}
+use Rattle.std.proofs.Common.{◌<◌, ◌≤◌, ◌⊎◌, List, length, get_or, take, sym, refl, ◌∙◌, subst, inl, inr, arith, drop-set-lt}
 use Rattle.journeys.specs.declared.question.Question.{Question}
 use Rattle.search.specs.Sounds.{Sound}
 use Rattle.search.specs.Runs.{Turn, asked, said_by, turns}

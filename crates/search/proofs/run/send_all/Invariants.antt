@@ -1,4 +1,4 @@
-use Rattle.std.proofs.Common.{◌≡◌, ℕ, ◌≤◌, length, take, drop}
+use Rattle.std.proofs.Common.{◌≡◌, ℕ, ◌≤◌, take, drop}
 use Rattle.search.specs.Sounds.{Sound}
 use Rattle.search.specs.Runs.{turns}
 use Rattle.search.specs.Turning.{Ran}

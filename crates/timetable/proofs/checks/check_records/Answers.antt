@@ -1,4 +1,4 @@
-use Rattle.std.proofs.Common.{◌+◌, length, add_assoc, rules, below_more}
+use Rattle.std.proofs.Common.{◌+◌, length, add_assoc, below_more}
 use Rattle.refusals.proofs.Places.{clear_more, clear_first}
 use Rattle.refusals.specs.declared.Refusal.TheVariants.{OfTable}
 use Rattle.std.proofs.lemmas.Result.{err_from_is_err_and}
