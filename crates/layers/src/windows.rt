@@ -1,6 +1,6 @@
 // The windows of a gate: up to sixteen, each of them a time during which an edge is shut.
 ghost use Rattle.std.specs.Prelude.{◌≡◌, ◌<◌, ◌≤◌, [], ◌∷◌, ◌++◌, length, take, MatchResult};
-ghost use Rattle.std.specs.List.{AllWithin, AllByRecursion as All};
+ghost use Rattle.std.specs.List.{AllWithin, AllByRecursion};
 ghost use Rattle.refusals.specs.Verdicts.{Verdict};
 ghost use Rattle.refusals.specs.declared.Refusal.TheVariants.{OfWindow};
 ghost use Rattle.layers.specs.Gates.{covers, least_open, LeastOpen, Wait, UnfitWindow};
@@ -99,7 +99,7 @@ impl Window {
 
 // Waits from the end of one window to the end of another; each jump leaves fewer windows that end later.
 fn opening_in(windows: &[Window], edge: u16, instant: u32) -> u32
-    requires { All (λ w. w.until ≤ 172800) windows.now }
+    requires { AllByRecursion (λ w. w.until ≤ 172800) windows.now }
     ensures { result ≡ least_open windows.now edge instant }
 {
     let mut open = instant;
@@ -111,7 +111,7 @@ fn opening_in(windows: &[Window], edge: u16, instant: u32) -> u32
 
 // The end of a window that shuts the edge at the instant, if there is one.
 fn wait(windows: &[Window], edge: u16, instant: u32) -> Option<u32>
-    requires { All (λ w. w.until ≤ 172800) windows.now }
+    requires { AllByRecursion (λ w. w.until ≤ 172800) windows.now }
     ensures { Wait windows.now edge instant result }
 {
     for window in windows {

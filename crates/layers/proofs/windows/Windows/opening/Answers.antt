@@ -1,5 +1,5 @@
 use Rattle.std.proofs.Common.{◌≡◌, take, sym, subst, rules}
-use Rattle.std.specs.List.{AllByRecursion as All}
+use Rattle.std.specs.List.{AllByRecursion}
 use Rattle.layers.specs.Gates.{LeastOpen, least_open}
 use Rattle.layers.specs.Fronts.{all_front}
 use Rattle.layers.specs.Gated.{Ends, least_open_is}
@@ -8,7 +8,7 @@ use Rattle.layers.proofs.windows.Windows.opening.Goals as goal
 pub opening_in-requires : goal.opening_in-requires
 opening_in-requires c =
     let s = c.args.self.now in
-    subst (All Ends) (sym c.held_windows.ensures) (all_front Ends s.held s.list s.ending)
+    subst (AllByRecursion Ends) (sym c.held_windows.ensures) (all_front Ends s.held s.list s.ending)
 
 pub returns : goal.returns
 returns c =
