@@ -1,5 +1,5 @@
 // A journey that was given or struck, and the list of them.
-ghost use Rattle.std.specs.Prelude.{◌≡◌, ◌≤◌, length};
+ghost use Rattle.std.specs.Prelude.{◌≡◌, ◌≤◌, false, length, replicate};
 
 // A journey with its arrival; it was given, or else struck.
 #[derive(Clone, Copy)]
@@ -13,8 +13,13 @@ pub struct Entry {
 }
 
 impl Entry {
-    // What stands in the places behind the entries.
-    pub(crate) fn unused() -> Entry {
+    // What stands in the places behind the entries: a struck journey of no edges.
+    pub(crate) fn unused() -> Entry
+        ensures edges { result.edges ≡ replicate 255 0 }
+        ensures count { result.count ≡ 0 }
+        ensures arrival { result.arrival ≡ 0 }
+        ensures given { result.given ≡ false }
+    {
         Entry {
             edges: [0; 255],
             count: 0,
