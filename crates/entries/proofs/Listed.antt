@@ -5,7 +5,8 @@ use Rattle.journeys.specs.Journeys.{In}
 use Rattle.journey_laws.specs.Branching.{NextEdge}
 use Rattle.journey_laws.proofs.Nexts.{next_more, goes_on_by, tested}
 use Rattle.entries.specs.declared.entry.Entry.{Entry}
-use Rattle.entries.specs.Listing.{edges_of, all_edges}
+use Rattle.entries.specs.declared.entry.Entries.{Entries}
+use Rattle.entries.specs.Listing.{edges_of, all_edges, listed}
 
 pub differs : (y p : List ℕ) (i : ℕ) → i < length p → get_or y i 0 ≢ get_or p i 0 → ¬ (take (length p) y ≡ p)
 differs y p i lt n h = n (sym (get_or-take (length p) y i 0 lt) ∙ ap (λ (z : List ℕ). get_or z i 0) h)
@@ -16,6 +17,14 @@ too_short y p lt h = let e = length-take (length p) y in let k = ap length h in 
 pub edges_last : (es : List Entry) (e : Entry) → all_edges (es ++ (e ∷ [])) ≡ all_edges es ++ (edges_of e ∷ [])
 edges_last [] e = refl
 edges_last (x ∷ es) e = ap (λ (z : List (List ℕ)). edges_of x ∷ z) (edges_last es e)
+
+length_edges : (es : List Entry) → length (all_edges es) ≡ length es
+length_edges [] = refl
+length_edges (e ∷ es) = ap suc (length_edges es)
+
+-- as many are listed as there are entries
+pub counted : (es : Entries) → length (listed es) ≡ es.count
+counted es = let f = es.few in let w = es.whole in length_edges (take es.count es.list) ∙ length-take-le es.count es.list (omega arith)
 
 in_last : (l : List ℕ) (x e : ℕ) → In x (l ++ (e ∷ [])) ↔ (In x l ⊎ (x ≡ e))
 in_last l x e = (there l, back l)

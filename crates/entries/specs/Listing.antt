@@ -40,11 +40,6 @@ abbrev pub Starts : List ℕ → List ℕ → Bool → Type 0
 Starts y p true = take (length p) y ≡ p
 Starts y p false = ¬ (take (length p) y ≡ p)
 
--- whether so many entries leave no place for another
-abbrev pub Full : ℕ → Bool → Type 0
-Full n true = 16 ≤ n
-Full n false = n < 16
-
 -- whether the entry begins with p and goes on
 abbrev pub GoesOn : Entry → List ℕ → Bool → Type 0
 GoesOn e p true = (length p < e.count) × (take (length p) e.edges ≡ p)

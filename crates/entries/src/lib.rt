@@ -1,10 +1,10 @@
 // The entries of a search: the journeys that were given or struck, and by which edges they go on.
 #![tactic(auto)]
 
-ghost use Rattle.std.specs.Prelude.{◌≡◌, ℕ, ◌<◌, ◌≤◌, ◌↔◌, [], length, take};
+ghost use Rattle.std.specs.Prelude.{◌≡◌, ℕ, ◌<◌, ◌≤◌, ◌↔◌, [], length, take, IsTrue};
 ghost use Rattle.journeys.specs.Journeys.{In};
 ghost use Rattle.journey_laws.specs.Branching.{NextEdge};
-ghost use Rattle.entries.specs.Listing.{all_edges, listed, given_of, Full, GoesOn, Starts, Lists, GoOn};
+ghost use Rattle.entries.specs.Listing.{all_edges, listed, given_of, GoesOn, Starts, Lists, GoOn};
 
 use entry::{Entries, Entry};
 
@@ -24,7 +24,7 @@ impl Entries {
 
     // Whether there is no place for another entry.
     pub fn is_full(&self) -> bool
-        ensures { Full self.now.count result }
+        ensures { IsTrue result ↔ (16 ≤ length (listed self.now)) }
     {
         self.count >= 16
     }

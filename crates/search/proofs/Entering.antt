@@ -1,6 +1,6 @@
 -- One entry more, and what stays true of the entries.
-use Rattle.std.proofs.Common.{◌≡◌, ℕ, suc, ◌+◌, ◌<◌, ◌⊎◌, List, [], ◌∷◌, ◌++◌, length, take, set, sym, refl, ap, ◌∙◌, subst, inl, inr, append_assoc, append-nil, arith}
-use Rattle.std.proofs.lemmas.List.{take_more_set, length-take-le}
+use Rattle.std.proofs.Common.{◌≡◌, ℕ, ◌+◌, ◌<◌, ◌⊎◌, List, [], ◌∷◌, ◌++◌, length, take, set, sym, ap, ◌∙◌, subst, inl, inr, append_assoc, append-nil}
+use Rattle.std.proofs.lemmas.List.{take_more_set}
 use Rattle.networks.specs.Networks.{Meaning}
 use Rattle.journeys.specs.declared.question.Question.{Question}
 use Rattle.journeys.specs.Journeys.{In, Simple, Unlisted}
@@ -23,14 +23,6 @@ listed_more xs n e h = ap all_edges (take_more_set xs n e h) ∙ edges_last (tak
 
 pub given_more : (xs : List Entry) (n : ℕ) (e : Entry) → n < length xs → all_given (take (n + 1) (set xs n e)) ≡ all_given (take n xs) ++ as_given e.given e.arrival (edges_of e)
 given_more xs n e h = ap all_given (take_more_set xs n e h) ∙ given_last (take n xs) e
-
-length_edges : (es : List Entry) → length (all_edges es) ≡ length es
-length_edges [] = refl
-length_edges (e ∷ es) = ap suc (length_edges es)
-
--- as many are listed as there are entries
-pub counted : (es : Entries) → length (listed es) ≡ es.count
-counted es = let f = es.few in let w = es.whole in length_edges (take es.count es.list) ∙ length-take-le es.count es.list (omega arith)
 
 in_last : {A : Type 0} (l : List A) (x e : A) → In x (l ++ (e ∷ [])) → In x l ⊎ (x ≡ e)
 in_last [] x e (inl h) = inr h

@@ -130,7 +130,7 @@ impl<N: Network> OpenSearch<N> {
     // Strikes an unlisted journey: it is an entry then, and never given.
     pub fn strike(&mut self, edges: &[u16]) -> Result<(), Refusal>
         ensures same { (self.new.network ≡ self.old.network) × (self.new.question ≡ self.old.question) }
-        ensures answer { OnOk result (((a : ℕ) × Unlisted (N.Network.meaning self.old.network) self.old.question (listed self.old.entries) a edges.now)) }
+        ensures answer { OnOk result ((a : ℕ) × Unlisted (N.Network.meaning self.old.network) self.old.question (listed self.old.entries) a edges.now) }
         ensures refusal { Verdict OfSearch (53 ∷ 54 ∷ 50 ∷ []) (AgainstStrike (N.Network.meaning self.old.network) self.old.question (listed self.old.entries) edges.now) result }
         ensures after { StrikeEnters self.old.entries edges.now result self.new.entries }
         ensures sound { Sound (N.Network.meaning self.old.network) self.old.question self.old.entries →

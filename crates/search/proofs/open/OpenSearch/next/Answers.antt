@@ -1,7 +1,8 @@
 use Rattle.std.proofs.Common.{ℕ, ◌<◌, length, take, refl, arith}
 use Rattle.entries.specs.Listing.{listed}
 use Rattle.search.specs.Calls.{told_journey}
-use Rattle.search.proofs.Entering.{counted, sound_given}
+use Rattle.entries.proofs.Listed.{counted}
+use Rattle.search.proofs.Entering.{sound_given}
 use Rattle.search.proofs.Refusing.{next_none, next_gives}
 use Rattle.search.proofs.open.OpenSearch.next.Goals as goal
 

@@ -1,6 +1,7 @@
 use Rattle.std.proofs.Common.{◌≡◌, ℕ, ◌<◌, Bool, List, [], ◌∷◌, ◌++◌, length, refl, ap, ◌∙◌, append-nil, arith}
 use Rattle.entries.specs.Listing.{listed, given_of, as_given, edges_of}
-use Rattle.search.proofs.Entering.{counted, sound_struck}
+use Rattle.entries.proofs.Listed.{counted}
+use Rattle.search.proofs.Entering.{sound_struck}
 use Rattle.search.proofs.Refusing.{strike_goes}
 use Rattle.search.proofs.open.OpenSearch.strike.Goals as goal
 
