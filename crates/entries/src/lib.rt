@@ -23,6 +23,7 @@ impl Entries {
     }
 
     // Whether there is no place for another entry.
+    #[tactic(auto, using(crate::proofs::Listed::counted))]
     pub fn is_full(&self) -> bool
         ensures { IsTrue result ↔ (16 ≤ length (listed self.now)) }
     {
