@@ -27,6 +27,11 @@ abbrev pub Verdict : {F A : Type 0} → (F → Refusal) → List ℕ → (F → 
 Verdict {F} refusal order Holds (Ok x) = (f : F) → Holds f → ⊥
 Verdict {F} refusal order Holds (Err r) = (f : F) × (r ≡ refusal f) × First refusal order Holds f
 
+-- The same of a check within one layer, which tells the reason itself.
+abbrev pub Judged : {F A : Type 0} → (F → Refusal) → List ℕ → (F → Type 0) → Result A F → Type 0
+Judged {F} refusal order Holds (Ok x) = (f : F) → Holds f → ⊥
+Judged {F} refusal order Holds (Err f) = First refusal order Holds f
+
 -- a reason that holds at place k
 abbrev pub At : {F : Type 0} → (F → Refusal) → (F → Type 0) → ℕ → F → Type 0
 At refusal Holds k f = ((told (refusal f)).place ≡ Some k) × Holds f

@@ -6,7 +6,7 @@ ghost use Rattle.refusals.specs.Told.{told};
 ghost use Rattle.refusals.specs.declared.Refusal.TheVariants.{OfFile, OfTable, OfBook, OfWindow, OfNotice, OfQuestion, OfSearch, OfDetour};
 
 // The part of the engine that a refusal comes from.
-#[derive(Clone, Copy)]
+#[derive(Clone, Copy, Debug, PartialEq, Eq)]
 pub enum Layer {
     File,
     Table,
@@ -16,7 +16,7 @@ pub enum Layer {
 }
 
 // Reading and writing a day file; a place is that of a byte.
-#[derive(Clone, Copy)]
+#[derive(Clone, Copy, Debug, PartialEq, Eq)]
 pub enum FileRefusal {
     EndsEarly(usize),
     UnknownMark(usize),
@@ -27,7 +27,7 @@ pub enum FileRefusal {
 }
 
 // Filling a day table; a place is an edge number.
-#[derive(Clone, Copy)]
+#[derive(Clone, Copy, Debug, PartialEq, Eq)]
 pub enum TableRefusal {
     TooManyRecords,
     ConnectionStops(usize),
@@ -40,7 +40,7 @@ pub enum TableRefusal {
 }
 
 // Filling a headway book; a place is an edge number.
-#[derive(Clone, Copy)]
+#[derive(Clone, Copy, Debug, PartialEq, Eq)]
 pub enum BookRefusal {
     TooManyLines,
     LineStops(usize),
@@ -49,7 +49,7 @@ pub enum BookRefusal {
 }
 
 // Adding a window to a gate layer.
-#[derive(Clone, Copy)]
+#[derive(Clone, Copy, Debug, PartialEq, Eq)]
 pub enum WindowRefusal {
     TooManyWindows,
     WindowEdge,
@@ -57,7 +57,7 @@ pub enum WindowRefusal {
 }
 
 // Adding a notice to a late layer.
-#[derive(Clone, Copy)]
+#[derive(Clone, Copy, Debug, PartialEq, Eq)]
 pub enum NoticeRefusal {
     TooManyNotices,
     NoticeEdge,
@@ -66,7 +66,7 @@ pub enum NoticeRefusal {
 }
 
 // Making a question.
-#[derive(Clone, Copy)]
+#[derive(Clone, Copy, Debug, PartialEq, Eq)]
 pub enum QuestionRefusal {
     OriginIsDestination,
     LatestPastDay,
@@ -74,7 +74,7 @@ pub enum QuestionRefusal {
 }
 
 // Asking an open search, and writing the sheet of a closed one.
-#[derive(Clone, Copy)]
+#[derive(Clone, Copy, Debug, PartialEq, Eq)]
 pub enum SearchRefusal {
     TooManyEntries,
     NoMore,
@@ -85,14 +85,14 @@ pub enum SearchRefusal {
 }
 
 // Asking for a detour.
-#[derive(Clone, Copy)]
+#[derive(Clone, Copy, Debug, PartialEq, Eq)]
 pub enum DetourRefusal {
     StopsUnfit,
     InstantsUnfit,
     NoDetour,
 }
 
-#[derive(Clone, Copy)]
+#[derive(Clone, Copy, Debug, PartialEq, Eq)]
 pub enum Refusal {
     OfFile(FileRefusal),
     OfTable(TableRefusal),
@@ -102,6 +102,70 @@ pub enum Refusal {
     OfQuestion(QuestionRefusal),
     OfSearch(SearchRefusal),
     OfDetour(DetourRefusal),
+}
+
+impl From<FileRefusal> for Refusal {
+    ghost from_gives = { λ e r. r ≡ OfFile e };
+
+    fn from(refusal: FileRefusal) -> Refusal {
+        Refusal::OfFile(refusal)
+    }
+}
+
+impl From<TableRefusal> for Refusal {
+    ghost from_gives = { λ e r. r ≡ OfTable e };
+
+    fn from(refusal: TableRefusal) -> Refusal {
+        Refusal::OfTable(refusal)
+    }
+}
+
+impl From<BookRefusal> for Refusal {
+    ghost from_gives = { λ e r. r ≡ OfBook e };
+
+    fn from(refusal: BookRefusal) -> Refusal {
+        Refusal::OfBook(refusal)
+    }
+}
+
+impl From<WindowRefusal> for Refusal {
+    ghost from_gives = { λ e r. r ≡ OfWindow e };
+
+    fn from(refusal: WindowRefusal) -> Refusal {
+        Refusal::OfWindow(refusal)
+    }
+}
+
+impl From<NoticeRefusal> for Refusal {
+    ghost from_gives = { λ e r. r ≡ OfNotice e };
+
+    fn from(refusal: NoticeRefusal) -> Refusal {
+        Refusal::OfNotice(refusal)
+    }
+}
+
+impl From<QuestionRefusal> for Refusal {
+    ghost from_gives = { λ e r. r ≡ OfQuestion e };
+
+    fn from(refusal: QuestionRefusal) -> Refusal {
+        Refusal::OfQuestion(refusal)
+    }
+}
+
+impl From<SearchRefusal> for Refusal {
+    ghost from_gives = { λ e r. r ≡ OfSearch e };
+
+    fn from(refusal: SearchRefusal) -> Refusal {
+        Refusal::OfSearch(refusal)
+    }
+}
+
+impl From<DetourRefusal> for Refusal {
+    ghost from_gives = { λ e r. r ≡ OfDetour e };
+
+    fn from(refusal: DetourRefusal) -> Refusal {
+        Refusal::OfDetour(refusal)
+    }
 }
 
 impl Refusal {
