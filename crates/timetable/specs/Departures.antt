@@ -1,30 +1,29 @@
 -- The departure that is computed is the earliest, and a book of lines that fit keeps the laws of a network.
-use Rattle.std.specs.Prelude.{◌≡◌, ℕ, ◌+◌, ◌-◌, ◌*◌, ◌/◌, ◌<◌, ◌≤◌, List, length, Some, None, Option, nat_le, refl}
-use Rattle.std.proofs.Common.{sym, subst, inl, inr, div-add-mod', mod-lt, div-lt_iff_lt-mul, mul-le-mul_right, add-mul, one-mul, arith}
+use Rattle.std.specs.Prelude.{◌≡◌, ℕ, ◌+◌, ◌-◌, ◌*◌, ◌<◌, ◌≤◌, List, length, Some, None, Option, nat_le, refl}
+use Rattle.std.proofs.Common.{sym, subst, inl, inr, lt_of_mul-lt-mul_right, mul-le-mul_right, add-mul, one-mul, arith}
+use Rattle.std.specs.Int.{div_ceil}
+use Rattle.std.proofs.lemmas.Grind.{div_ceil_times}
 use Rattle.std.proofs.lemmas.Bool.Decides.{nat_tests}
 use Rattle.std.proofs.lemmas.Bool.{cases_Bool, cases_lt, leb-true, leb-false, cond-true, cond-false}
 use Rattle.networks.specs.Networks.{Lawful, Stops, InDay, NotBefore, NoLater, day_end}
 use Rattle.timetable.specs.declared.records.Line.{Line}
 use Rattle.timetable.specs.HeadwayBooks.{line, Departs, EarliestFrom, next_multiple, earliest_from, by_line, at_line, headway_book, LineFits}
 
--- a quotient rounded up, times the divisor, is enough, and no smaller multiple is
-enough : (w n : ℕ) → 0 < n → w ≤ (w + n - 1) / n * n
-enough w n h = omega (arith, div-add-mod' (w + n - 1) n, mod-lt (w + n - 1) h)
-
-least : (w n k : ℕ) → 0 < n → w ≤ k * n → (w + n - 1) / n ≤ k
+-- a quotient rounded up is no more than any number whose multiple is enough
+least : (w n k : ℕ) → 0 < n → w ≤ k * n → div_ceil w n ≤ k
 least w n k h l =
-    let e : w + n - 1 < (k + 1) * n = omega (arith, add-mul k 1 n, one-mul n) in
-    let m : (w + n - 1) / n < k + 1 = (div-lt_iff_lt-mul {x = w + n - 1} {y = k + 1} h).1 e in
+    let e : div_ceil w n * n < (k + 1) * n = omega (arith, (div_ceil_times w n h).1, add-mul k 1 n, one-mul n) in
+    let m : div_ceil w n < k + 1 = lt_of_mul-lt-mul_right n e in
     omega arith
 
 not_before : (l : Line) (t : ℕ) → 0 < l.interval → t ≤ next_multiple l t
-not_before l t h = omega (arith, enough (t - l.first) l.interval h)
+not_before l t h = omega (arith, (div_ceil_times (t - l.first) l.interval h).0)
 
 no_later : (l : Line) (t n : ℕ) → 0 < l.interval → t ≤ l.first + n * l.interval → next_multiple l t ≤ l.first + n * l.interval
 no_later l t n h i = let u = least (t - l.first) l.interval n h (omega arith) in omega (arith, mul-le-mul_right l.interval u)
 
 rising : (l : Line) (s t : ℕ) → 0 < l.interval → s ≤ t → next_multiple l s ≤ next_multiple l t
-rising l s t h i = no_later l s ((t - l.first + l.interval - 1) / l.interval) h (omega (arith, not_before l t h))
+rising l s t h i = no_later l s (div_ceil (t - l.first) l.interval) h (omega (arith, not_before l t h))
 
 pub is_earliest : (l : Line) (t : ℕ) → 0 < l.interval → EarliestFrom l t (earliest_from l t)
 is_earliest l t h =
@@ -32,7 +31,7 @@ is_earliest l t h =
     elim (cases_Bool (nat_le d l.last)) [
       | inl y ↦
           subst (EarliestFrom l t) (sym (cond-true (nat_le d l.last) (Some d) None y))
-          (((t - l.first + l.interval - 1) / l.interval, refl, leb-true d l.last y), not_before l t h, from_here)
+          ((div_ceil (t - l.first) l.interval, refl, leb-true d l.last y), not_before l t h, from_here)
       | inr n ↦
           subst (EarliestFrom l t) (sym (cond-false (nat_le d l.last) (Some d) None n))
           (λ c p. elim (cases_lt c t) [ inl lt ↦ lt | inr ge ↦ absurd (omega (arith, from_here c p ge, leb-false d l.last n, p.2)) ])

@@ -1,5 +1,6 @@
 -- What a headway book means, and the rules that filling one checks.
-use Rattle.std.specs.Prelude.{◌≡◌, ℕ, ◌+◌, ◌-◌, ◌*◌, ◌/◌, ◌<◌, ◌≤◌, cond, ◌⊎◌, List, [], ◌∷◌, length, Some, None, Option, nat_le, nat_lt, slice_index_or}
+use Rattle.std.specs.Prelude.{◌≡◌, ℕ, ◌+◌, ◌-◌, ◌*◌, ◌<◌, ◌≤◌, cond, ◌⊎◌, List, [], ◌∷◌, length, Some, None, Option, nat_le, nat_lt, slice_index_or}
+use Rattle.std.specs.Int.{div_ceil}
 use Rattle.networks.specs.Networks.{Meaning, day_end}
 use Rattle.refusals.specs.declared.BookRefusal.{BookRefusal}
 use Rattle.refusals.specs.declared.BookRefusal.TheVariants.{TooManyLines, LineStops, LineInterval, LineHours}
@@ -20,7 +21,7 @@ EarliestFrom l t (Some d) = Departs l d × (t ≤ d) × ((c : ℕ) → Departs l
 
 -- the least of the first plus whole multiples of the interval that is not before t
 abbrev pub next_multiple : Line → ℕ → ℕ
-next_multiple l t = l.first + (t - l.first + l.interval - 1) / l.interval * l.interval
+next_multiple l t = l.first + div_ceil (t - l.first) l.interval * l.interval
 
 -- the departure to take, computed
 abbrev pub earliest_from : Line → ℕ → Option ℕ

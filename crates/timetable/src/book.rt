@@ -1,7 +1,7 @@
 // The headway book: a network of lines run at intervals.
 ghost use Rattle.std.specs.Prelude.{◌≡◌, ℕ, ◌<◌, ◌≤◌, [], length, IfSome, IfOk, Some, vec_capacity, MatchResult, OnOk};
 ghost use Rattle.networks.specs.Networks.{Meaning};
-ghost use Rattle.refusals.specs.Verdicts.{At, Verdict};
+ghost use Rattle.refusals.specs.Verdicts.{At, Judged, Verdict};
 ghost use Rattle.refusals.specs.declared.Refusal.TheVariants.{OfBook};
 ghost use Rattle.refusals.specs.declared.BookRefusal.{BookRefusal};
 ghost use Rattle.timetable.specs.HeadwayBooks.{line, at_line, earliest_from, EarliestFrom, headway_book, Breaks, book_order, LineFits};
@@ -23,32 +23,32 @@ pub struct HeadwayBook {
 }
 
 // The first rule that line k breaks, which is `l`.
-fn check_line(lines: &[Line], k: usize, l: Line) -> Result<(), Refusal>
+fn check_line(lines: &[Line], k: usize, l: Line) -> Result<(), BookRefusal>
     requires within { k < length lines.now }
     requires here { l ≡ line lines.now k }
     ensures fits { OnOk result (LineFits l) }
-    ensures answer { Verdict OfBook book_order (At OfBook (Breaks lines.now) k) result }
+    ensures answer { Judged OfBook book_order (At OfBook (Breaks lines.now) k) result }
 {
     if l.from == l.to {
-        return Err(Refusal::OfBook(BookRefusal::LineStops(k)));
+        return Err(BookRefusal::LineStops(k));
     }
     if l.interval == 0 || l.ride == 0 {
-        return Err(Refusal::OfBook(BookRefusal::LineInterval(k)));
+        return Err(BookRefusal::LineInterval(k));
     }
     if l.first > l.last || l.last > DAY_END || l.ride > DAY_END - l.last {
-        return Err(Refusal::OfBook(BookRefusal::LineHours(k)));
+        return Err(BookRefusal::LineHours(k));
     }
     Ok(())
 }
 
 // The first rule that the lines break, by edge number and then in the order in which the rules are written.
-fn check_lines(lines: &[Line]) -> Result<(), Refusal>
-    ensures answer { Verdict OfBook book_order (Breaks lines.now) result }
+fn check_lines(lines: &[Line]) -> Result<(), BookRefusal>
+    ensures answer { Judged OfBook book_order (Breaks lines.now) result }
     ensures few { OnOk result (length lines.now ≤ 1024) }
     ensures fits { OnOk result ((k : ℕ) → k < length lines.now → LineFits (line lines.now k)) }
 {
     if lines.len() > 1024 {
-        return Err(Refusal::OfBook(BookRefusal::TooManyLines));
+        return Err(BookRefusal::TooManyLines);
     }
     for (k, line) in lines.iter().enumerate() {
         check_line(lines, k, *line)?;
@@ -56,30 +56,25 @@ fn check_lines(lines: &[Line]) -> Result<(), Refusal>
     Ok(())
 }
 
-// The first departure of a line that is not before an instant, by rounding the wait up to whole intervals.
-fn round_up(l: Line, instant: u32) -> Option<u32>
-    requires { LineFits l }
-    ensures { result ≡ earliest_from l instant }
-{
-    let first = l.first as u64;
-    let interval = l.interval as u64;
-    let wait = (instant as u64).saturating_sub(first);
-    let departure = first + (wait + interval - 1) / interval * interval;
-    if departure <= l.last as u64 {
-        Some(departure as u32)
-    } else {
-        None
+impl Line {
+    // The departure to take at an instant, by rounding the wait up to whole intervals: no other at or after the instant is earlier.
+    #[tactic(auto, using(crate::specs::Departures::is_earliest))]
+    fn departure_from(self, instant: u32) -> Option<u32>
+        requires { LineFits self }
+        ensures answer { result ≡ earliest_from self instant }
+        ensures law { EarliestFrom self instant result }
+        ensures within { IfSome result (λ d. d ≤ self.last) }
+    {
+        let first = self.first as u64;
+        let interval = self.interval as u64;
+        let wait = (instant as u64).saturating_sub(first);
+        let departure = first + wait.div_ceil(interval) * interval;
+        if departure <= self.last as u64 {
+            Some(departure as u32)
+        } else {
+            None
+        }
     }
-}
-
-// The departure of a line to take at an instant: no other at or after the instant is earlier.
-fn departure_of(l: Line, instant: u32) -> Option<u32>
-    requires { LineFits l }
-    ensures answer { result ≡ earliest_from l instant }
-    ensures law { EarliestFrom l instant result }
-    ensures within { IfSome result (λ d. d ≤ l.last) }
-{
-    round_up(l, instant)
 }
 
 impl HeadwayBook {
@@ -111,13 +106,7 @@ impl HeadwayBook {
         ensures answer { result ≡ at_line Some self.now.lines.items edge }
         ensures fits { IfSome result LineFits }
     {
-        let k = edge as usize;
-        if k < self.lines.len() {
-            let line = self.lines[k];
-            Some(line)
-        } else {
-            None
-        }
+        self.lines.get(edge as usize).copied()
     }
 
     // The earliest departure of a line at or after an instant.
@@ -126,7 +115,7 @@ impl HeadwayBook {
         ensures law { edge < length self.now.lines.items → EarliestFrom (line self.now.lines.items edge) instant result }
     {
         let line = self.line_at(edge)?;
-        departure_of(line, instant)
+        line.departure_from(instant)
     }
 }
 
@@ -146,7 +135,7 @@ impl Network for HeadwayBook {
 
     fn lookup(&self, edge: u16, instant: u32) -> Option<u32> {
         let line = self.line_at(edge)?;
-        let departure = departure_of(line, instant)?;
+        let departure = line.departure_from(instant)?;
         Some(departure + line.ride)
     }
 }

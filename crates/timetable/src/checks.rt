@@ -1,12 +1,12 @@
 // The rules of filling a day table, checked record by record.
-ghost use Rattle.std.specs.Prelude.{◌≡◌, ℕ, ◌+◌, ◌<◌, ◌≤◌, true, false, ◌≢◌, [], length, MatchOption, OnOk};
-ghost use Rattle.refusals.specs.Verdicts.{At, Verdict};
+ghost use Rattle.std.specs.Prelude.{◌≡◌, ℕ, ◌+◌, ◌<◌, ◌≤◌, ◌≢◌, ◌↔◌, [], length, MatchOption, OnOk, IsTrue};
+ghost use Rattle.refusals.specs.Verdicts.{At, Judged};
 ghost use Rattle.refusals.specs.declared.Refusal.TheVariants.{OfTable};
 ghost use Rattle.timetable.specs.DayTables.{connection, footpath, NearestOfTrip, Repeated, Breaks, table_order, ConnectionStopsFit, FootpathStopsFit};
 
 use crate::records::{Connection, Footpath};
 use networks::DAY_END;
-use refusals::{Refusal, TableRefusal};
+use refusals::TableRefusal;
 
 // The nearest connection before k that is of its trip.
 fn nearest_of_trip(connections: &[Connection], k: usize) -> Option<usize>
@@ -14,34 +14,29 @@ fn nearest_of_trip(connections: &[Connection], k: usize) -> Option<usize>
     ensures { MatchOption result ((j : ℕ) → j < k → (connection connections.now j).trip ≢ (connection connections.now k).trip) (NearestOfTrip connections.now k) }
 {
     let trip = connections[k].trip;
-    for j in (0..k).rev() {
-        if connections[j].trip == trip {
-            return Some(j);
-        }
-    }
-    None
+    connections[..k].iter().rposition(|c| c.trip == trip)
 }
 
 // The first rule that connection k breaks, which is `c`.
-fn check_connection(connections: &[Connection], k: usize, c: Connection) -> Result<(), Refusal>
+fn check_connection(connections: &[Connection], k: usize, c: Connection) -> Result<(), TableRefusal>
     requires within { k < length connections.now }
     requires here { c ≡ connection connections.now k }
     ensures stops { (c.from < 256) × (c.to < 256) }
-    ensures answer { Verdict OfTable table_order (At OfTable (Breaks connections.now []) k) result }
+    ensures answer { Judged OfTable table_order (At OfTable (Breaks connections.now []) k) result }
 {
     if c.from == c.to {
-        return Err(Refusal::OfTable(TableRefusal::ConnectionStops(k)));
+        return Err(TableRefusal::ConnectionStops(k));
     }
     if c.arrival <= c.departure || c.arrival > DAY_END {
-        return Err(Refusal::OfTable(TableRefusal::ConnectionTimes(k)));
+        return Err(TableRefusal::ConnectionTimes(k));
     }
     if k > 0 && c.departure < connections[k - 1].departure {
-        return Err(Refusal::OfTable(TableRefusal::ConnectionOrder(k)));
+        return Err(TableRefusal::ConnectionOrder(k));
     }
     if let Some(j) = nearest_of_trip(connections, k) {
         let before = connections[j];
         if before.to != c.from || before.arrival >= c.departure {
-            return Err(Refusal::OfTable(TableRefusal::ConnectionTrip(k)));
+            return Err(TableRefusal::ConnectionTrip(k));
         }
     }
     Ok(())
@@ -50,16 +45,10 @@ fn check_connection(connections: &[Connection], k: usize, c: Connection) -> Resu
 // Whether an earlier footpath has the stops of footpath j, in the same order.
 fn is_repeated(footpaths: &[Footpath], j: usize) -> bool
     requires { j < length footpaths.now }
-    ensures yes { result ≡ true → Repeated footpaths.now j }
-    ensures no { result ≡ false → Repeated footpaths.now j → ⊥ }
+    ensures { IsTrue result ↔ Repeated footpaths.now j }
 {
     let path = footpaths[j];
-    for i in 0..j {
-        if footpaths[i].from == path.from && footpaths[i].to == path.to {
-            return true;
-        }
-    }
-    false
+    footpaths[..j].iter().any(|earlier| earlier.from == path.from && earlier.to == path.to)
 }
 
 // The first rule that footpath j breaks, which is `path`; it stands behind the connections.
@@ -68,22 +57,22 @@ fn check_footpath(
     footpaths: &[Footpath],
     j: usize,
     path: Footpath,
-) -> Result<(), Refusal>
+) -> Result<(), TableRefusal>
     requires few { length connections.now ≤ 3072 }
     requires within { j < length footpaths.now }
     requires here { path ≡ footpath footpaths.now j }
     ensures stops { (path.from < 256) × (path.to < 256) }
-    ensures answer { Verdict OfTable table_order (At OfTable (Breaks connections.now footpaths.now) (length connections.now + j)) result }
+    ensures answer { Judged OfTable table_order (At OfTable (Breaks connections.now footpaths.now) (length connections.now + j)) result }
 {
     let edge = connections.len() + j;
     if path.from == path.to {
-        return Err(Refusal::OfTable(TableRefusal::FootpathStops(edge)));
+        return Err(TableRefusal::FootpathStops(edge));
     }
     if path.duration > 86_400 {
-        return Err(Refusal::OfTable(TableRefusal::FootpathDuration(edge)));
+        return Err(TableRefusal::FootpathDuration(edge));
     }
     if is_repeated(footpaths, j) {
-        return Err(Refusal::OfTable(TableRefusal::FootpathRepeated(edge)));
+        return Err(TableRefusal::FootpathRepeated(edge));
     }
     Ok(())
 }
@@ -92,13 +81,13 @@ fn check_footpath(
 pub(crate) fn check_records(
     connections: &[Connection],
     footpaths: &[Footpath],
-) -> Result<(), Refusal>
-    ensures answer { Verdict OfTable table_order (Breaks connections.now footpaths.now) result }
+) -> Result<(), TableRefusal>
+    ensures answer { Judged OfTable table_order (Breaks connections.now footpaths.now) result }
     ensures few { OnOk result ((length connections.now ≤ 3072) × (length footpaths.now ≤ 1024)) }
     ensures stops { OnOk result (ConnectionStopsFit connections.now × FootpathStopsFit footpaths.now) }
 {
     if connections.len() > 3072 || footpaths.len() > 1024 {
-        return Err(Refusal::OfTable(TableRefusal::TooManyRecords));
+        return Err(TableRefusal::TooManyRecords);
     }
     for (k, connection) in connections.iter().enumerate() {
         check_connection(connections, k, *connection)?;

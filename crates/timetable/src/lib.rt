@@ -3,6 +3,7 @@
 
 pub mod book;
 mod checks;
+mod edge;
 pub mod records;
 mod refilling;
 pub mod table;

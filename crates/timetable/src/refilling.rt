@@ -8,7 +8,5 @@ pub(crate) fn refill<T: Copy>(list: &mut Vec<T>, items: &[T])
     ensures room { vec_capacity list.old ≤ vec_capacity list.new }
 {
     list.clear();
-    let Ok(()) = list.extend_from_slice(items) else {
-        unreachable()
-    };
+    list.extend_from_slice(items).unwrap();
 }

@@ -1,16 +1,18 @@
 // The day table: a network of connections and footpaths.
-ghost use Rattle.std.specs.Prelude.{◌≡◌, ◌≤◌, [], length, IfOk, vec_capacity, MatchResult};
+ghost use Rattle.std.specs.Prelude.{◌≡◌, ◌≤◌, [], length, Some, IfOk, vec_capacity, MatchResult};
 ghost use Rattle.networks.specs.Networks.{Meaning};
 ghost use Rattle.refusals.specs.Verdicts.{Verdict};
 ghost use Rattle.refusals.specs.declared.Refusal.TheVariants.{OfTable};
 ghost use Rattle.refusals.specs.declared.TableRefusal.{TableRefusal};
-ghost use Rattle.timetable.specs.DayTables.{ride, on_foot, day_table, Breaks, table_order, ConnectionStopsFit, FootpathStopsFit};
+ghost use Rattle.timetable.specs.DayTables.{at_edge, day_table, Breaks, table_order, ConnectionStopsFit, FootpathStopsFit};
+ghost use Rattle.timetable.specs.declared.edge.Edge.TheVariants.{Ride, Walk};
 ghost use Rattle.timetable.specs.Lawfully.{table_lawful};
 
 use crate::checks::check_records;
+use crate::edge::Edge;
 use crate::records::{Connection, Footpath};
 use crate::refilling::refill;
-use networks::{DAY_END, Network};
+use networks::Network;
 use refusals::Refusal;
 use std::alloc::{AllocError, Global};
 
@@ -68,25 +70,16 @@ impl DayTable {
     }
 }
 
-// The arrival of somebody who is at the first stop of a connection at an instant.
-fn ride_arrival(connection: Connection, instant: u32) -> Option<u32>
-    ensures { result ≡ ride connection instant }
-{
-    if instant <= connection.departure {
-        Some(connection.arrival)
-    } else {
-        None
-    }
-}
-
-// The arrival of somebody who sets out on a footpath at an instant.
-fn walk_arrival(footpath: Footpath, instant: u32) -> Option<u32>
-    ensures { result ≡ on_foot footpath instant }
-{
-    if instant <= DAY_END && footpath.duration <= DAY_END - instant {
-        Some(instant + footpath.duration)
-    } else {
-        None
+impl DayTable {
+    // Edge numbers go through the connections and then through the footpaths.
+    fn edge_at(&self, edge: u16) -> Option<Edge>
+        ensures { result ≡ at_edge (λ c. Some (Ride c)) (λ f. Some (Walk f)) self.now.connections.items self.now.footpaths.items edge }
+    {
+        let edge = edge as usize;
+        match self.connections.get(edge) {
+            Some(connection) => Some(Edge::Ride(*connection)),
+            None => Some(Edge::Walk(*self.footpaths.get(edge - self.connections.len())?)),
+        }
     }
 }
 
@@ -100,30 +93,10 @@ impl Network for DayTable {
     }
 
     fn ends(&self, edge: u16) -> Option<(u8, u8)> {
-        let e = edge as usize;
-        let rides = self.connections.len();
-        if e < rides {
-            let connection = self.connections[e];
-            return Some((connection.from, connection.to));
-        }
-        if e - rides < self.footpaths.len() {
-            let footpath = self.footpaths[e - rides];
-            return Some((footpath.from, footpath.to));
-        }
-        None
+        Some(self.edge_at(edge)?.ends())
     }
 
     fn lookup(&self, edge: u16, instant: u32) -> Option<u32> {
-        let e = edge as usize;
-        let rides = self.connections.len();
-        if e < rides {
-            let connection = self.connections[e];
-            return ride_arrival(connection, instant);
-        }
-        if e - rides < self.footpaths.len() {
-            let footpath = self.footpaths[e - rides];
-            return walk_arrival(footpath, instant);
-        }
-        None
+        self.edge_at(edge)?.arrival(instant)
     }
 }
