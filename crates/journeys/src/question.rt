@@ -8,7 +8,7 @@ ghost use Rattle.journeys.specs.Questions.{Reason};
 use networks::DAY_END;
 use refusals::{QuestionRefusal, Refusal};
 
-#[derive(Clone, Copy)]
+#[derive(Clone, Copy, Debug, PartialEq, Eq)]
 pub struct Question {
     origin: u8,
     destination: u8,
@@ -26,13 +26,13 @@ impl Question {
         ensures refusal { Verdict OfQuestion (40 ∷ 41 ∷ 42 ∷ []) (Reason origin destination start latest) result }
     {
         if origin == destination {
-            return Err(Refusal::OfQuestion(QuestionRefusal::OriginIsDestination));
+            return Err(QuestionRefusal::OriginIsDestination.into());
         }
         if latest > DAY_END {
-            return Err(Refusal::OfQuestion(QuestionRefusal::LatestPastDay));
+            return Err(QuestionRefusal::LatestPastDay.into());
         }
         if start > latest {
-            return Err(Refusal::OfQuestion(QuestionRefusal::StartAfterLatest));
+            return Err(QuestionRefusal::StartAfterLatest.into());
         }
         Ok(Question {
             origin,

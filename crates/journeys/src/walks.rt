@@ -4,7 +4,7 @@ ghost use Rattle.journeys.specs.Walking.{Taken, Walked};
 use networks::Network;
 
 // An edge that was taken: the stop it leaves, the stop it reaches, and when it reaches it.
-#[derive(Clone, Copy)]
+#[derive(Clone, Copy, Debug, PartialEq, Eq)]
 pub struct Step {
     pub from: u8,
     pub to: u8,
@@ -12,7 +12,7 @@ pub struct Step {
 }
 
 // Why an edge cannot be taken.
-#[derive(Clone, Copy)]
+#[derive(Clone, Copy, Debug, PartialEq, Eq)]
 pub enum Obstacle {
     NoSuchEdge,
     LeavesElsewhere,
@@ -20,7 +20,7 @@ pub enum Obstacle {
 }
 
 // The step of a list, counted from 0, that cannot be taken, and why.
-#[derive(Clone, Copy)]
+#[derive(Clone, Copy, Debug, PartialEq, Eq)]
 pub struct Blocked {
     pub step: usize,
     pub obstacle: Obstacle,
@@ -35,18 +35,12 @@ pub fn take_edge<N: Network>(
 ) -> Result<Step, Obstacle>
     ensures { Taken (N.Network.meaning network.now) here instant edge result }
 {
-    let Some((from, to)) = network.ends(edge) else {
-        return Err(Obstacle::NoSuchEdge);
-    };
-    if let Some(stop) = here {
-        if stop != from {
-            return Err(Obstacle::LeavesElsewhere);
-        }
+    let (from, to) = network.ends(edge).ok_or(Obstacle::NoSuchEdge)?;
+    if here.is_some_and(|stop| stop != from) {
+        return Err(Obstacle::LeavesElsewhere);
     }
-    match network.lookup(edge, instant) {
-        Some(arrival) => Ok(Step { from, to, arrival }),
-        None => Err(Obstacle::NoDeparture),
-    }
+    let arrival = network.lookup(edge, instant).ok_or(Obstacle::NoDeparture)?;
+    Ok(Step { from, to, arrival })
 }
 
 // The arrival of a list of edges, each taken from the stop and at the instant that the one before reached.
@@ -55,14 +49,13 @@ pub fn walk<N: Network>(network: &N, start: u32, edges: &[u16]) -> Result<u32, B
 {
     let mut here = None;
     let mut instant = start;
-    for (i, edge) in edges.iter().enumerate() {
-        match take_edge(network, here, instant, *edge) {
-            Ok(taken) => {
-                here = Some(taken.to);
-                instant = taken.arrival;
-            }
-            Err(obstacle) => return Err(Blocked { step: i, obstacle }),
-        }
+    for (step, edge) in edges.iter().enumerate() {
+        let taken = take_edge(network, here, instant, *edge).map_err(|obstacle| Blocked {
+            step,
+            obstacle,
+        })?;
+        here = Some(taken.to);
+        instant = taken.arrival;
     }
     Ok(instant)
 }
