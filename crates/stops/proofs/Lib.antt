@@ -1,1 +1,1 @@
-mod Bit
+pub mod Bits

@@ -3,32 +3,34 @@
 
 ghost use Rattle.std.specs.Prelude.{◌≡◌, ℕ, true, false, ◌≢◌};
 ghost use Rattle.stops.specs.Sets.{member};
-ghost use Rattle.stops.specs.Words.{bit};
 
 // Stop s is bit s % 64 of word s / 64.
-#[derive(Clone, Copy)]
+#[derive(Clone, Copy, Debug, PartialEq, Eq)]
 pub struct StopSet {
     words: [u64; 4],
 }
 
 impl StopSet {
+    #[tactic(auto, using(crate::proofs::Bits::none))]
     pub fn empty() -> StopSet
         ensures { (s : ℕ) → member result s ≡ false }
     {
-        StopSet { words: no_bits() }
+        StopSet { words: [0; 4] }
     }
 
+    #[tactic(auto, using(crate::proofs::Bits::tested))]
     pub fn contains(&self, stop: u8) -> bool
         ensures { result ≡ member self.now stop }
     {
-        test_bit(&self.words, stop)
+        (self.words[(stop / 64) as usize] >> (stop % 64)) & 1 == 1
     }
 
+    #[tactic(auto, using(crate::proofs::Bits::set_here, crate::proofs::Bits::set_elsewhere))]
     pub fn insert(&mut self, stop: u8)
         ensures after { member self.new stop ≡ true }
         ensures rest { (s : ℕ) → s ≢ stop → member self.new s ≡ member self.old s }
     {
-        set_bit(&mut self.words, stop);
+        self.words[(stop / 64) as usize] |= 1 << (stop % 64);
     }
 }
 
@@ -45,24 +47,4 @@ impl Drop for Restore<'_> {
         *self.set = self.saved;
         let Restore { set: _, saved: _ } = self;
     }
-}
-
-fn no_bits() -> [u64; 4]
-    ensures { (s : ℕ) → bit result s ≡ false }
-{
-    [0; 4]
-}
-
-fn test_bit(words: &[u64; 4], place: u8) -> bool
-    ensures { result ≡ bit words.now place }
-{
-    (words[(place / 64) as usize] >> (place % 64)) & 1 == 1
-}
-
-fn set_bit(words: &mut [u64; 4], place: u8)
-    ensures after { bit words.new place ≡ true }
-    ensures rest { (s : ℕ) → s ≢ place → bit words.new s ≡ bit words.old s }
-{
-    let word = (place / 64) as usize;
-    words[word] |= 1u64 << (place % 64);
 }
