@@ -1,13 +1,14 @@
 -- One edge more in the groups.
-use Rattle.std.proofs.Common.{◌≡◌, ℕ, ◌+◌, ◌<◌, List, length, get_or, set, Some, None, sym, ap, subst, inl, inr, arith, get_or-set_other, get_or-set_same}
+use Rattle.std.proofs.Common.{◌≡◌, ℕ, ◌+◌, ◌<◌, ◌≢◌, List, length, set, Some, None, Option, sym, ap, ◌∙◌, subst, inl, inr, arith, get_or-set_other, get_or-set_same}
 use native.Mathlib.Decide.{dec_lt}
 use Rattle.std.proofs.lemmas.Bool.{cases_eq, cases_lt}
 use Rattle.networks.specs.Networks.{Meaning, Lawful, Stops}
 use Rattle.journey_laws.specs.Arrivals.{Relaxed}
-use Rattle.detour.specs.Departing.{LeastFrom, Grouped}
-
-same_start : (m : Meaning) (e : ℕ) {s y x z : ℕ} → m.ends e ≡ Some (s, y) → m.ends e ≡ Some (x, z) → s ≡ x
-same_start m e {s} {y} {x} {z} h k = let p : ◌≡◌ {A = ℕ × ℕ} (s, y) (x, z) = cc in ap (λ (q : ℕ × ℕ). q.0) p
+use Rattle.std.proofs.Common.{MatchOption, option_map}
+use Rattle.std.specs.Option.{ForSome}
+use Rattle.detour.specs.declared.departures.Leaving.{Leaving}
+use Rattle.detour.specs.Leaving.{Steps}
+use Rattle.detour.specs.Departing.{start_of, or_count, link, LeastFrom, Grouped}
 
 -- an edge with ends has a number below the count, and leaves a stop below 256
 pub there : (m : Meaning) → Lawful m → (e : ℕ) (p : ℕ × ℕ) → m.ends e ≡ Some p → (e < m.count) × (p.0 < 256)
@@ -20,65 +21,66 @@ there m law e p h = at (dec_lt e m.count)
         let z : ◌≡◌ {A = ℕ} 0 1 = cc in
         absurd (omega arith)
 
+pub leaves_stop : (m : Meaning) (e : ℕ) {s y : ℕ} → m.ends e ≡ Some (s, y) → start_of m e ≡ Some s
+leaves_stop m e h = ap (option_map (λ p. p.0)) h
+
 module _ {m : Meaning} where
   -- one edge more, which leaves another stop
-  wider : {s k e : ℕ} → LeastFrom m s (k + 1) e → ((y : ℕ) → m.ends k ≡ Some (s, y) → ⊥) → LeastFrom m s k e
-  wider {s} {k} {e} n none = record {
+  wider : {s k : ℕ} {o : Option ℕ} → LeastFrom m s (k + 1) o → start_of m k ≢ Some s → LeastFrom m s k o
+  wider {s} {k} n other = record {
     low = omega (arith, n.low);
     most = n.most;
-    gap = λ f y le lt h. elim (cases_eq f k) [
-      | inl i ↦ none y (subst (λ j. m.ends j ≡ Some (s, y)) i h)
-      | inr ne ↦ n.gap f y (omega arith) lt h
+    gap = λ f le lt h. elim (cases_eq f k) [
+      | inl i ↦ other (subst (λ j. start_of m j ≡ Some s) i h)
+      | inr ne ↦ n.gap f (omega arith) lt h
     ];
     leaves = n.leaves;
   }
 
-  pub no_group : Lawful m → (first next : List ℕ) → ((s : ℕ) → s < 256 → get_or first s 0 ≡ m.count) → Grouped m m.count first next
-  no_group law first next all = record {
-    firsts = λ s hs. record {
-      low = omega (arith, all s hs);
-      most = omega (arith, all s hs);
-      gap = λ f y le lt h. absurd (omega (arith, all s hs));
-      leaves = λ lt. absurd (omega (arith, all s hs));
-    };
-    nexts = λ s e y le h. absurd (omega (arith, (there m law e (s, y) h).0));
-  }
-
-  pub group_none : {k : ℕ} {first next : List ℕ} → Grouped m (k + 1) first next → m.ends k ≡ None → Grouped m k first next
-  group_none {k} {first} {next} d none = record {
-    firsts = λ s hs. wider (d.firsts s hs) (λ y h. nothing s y h);
-    nexts = λ s e y le h. elim (cases_eq e k) [
-      | inl i ↦ absurd (nothing s y (subst (λ j. m.ends j ≡ Some (s, y)) i h))
-      | inr ne ↦ d.nexts s e y (omega arith) h
-    ];
-  }
-    where
-      nothing : (s y : ℕ) → m.ends k ≡ Some (s, y) → ⊥
-      nothing s y h = let z : ◌≡◌ {A = ℕ} 0 1 = cc in omega arith
-
-  pub group_more : {k x z : ℕ} {first next : List ℕ} → Grouped m (k + 1) first next → m.ends k ≡ Some (x, z) → k < m.count → x < 256 → x < length first → k < length next →
-      Grouped m k (set first x k) (set next k (get_or first x 0))
-  group_more {k} {x} {z} {first} {next} d leads hk hx within room = record {
+  pub group_more : {k x : ℕ} {first next : List (Option ℕ)} → Grouped m (k + 1) first next → start_of m k ≡ Some x → k < m.count → x < 256 → x < length first → k < length next →
+      Grouped m k (set first x (Some k)) (set next k (link first x))
+  group_more {k} {x} {first} {next} d leads hk hx within room = record {
     firsts = λ s hs. elim (cases_eq s x) [
-      | inl i ↦ subst (λ j. LeastFrom m j k (get_or (set first x k) j 0)) (sym i) (subst (LeastFrom m x k) (sym (get_or-set_same first x k 0 within)) begin)
-      | inr ne ↦ subst (LeastFrom m s k) (sym (get_or-set_other first x s k 0 ne)) (wider (d.firsts s hs) (λ y h. ne (same_start m k h leads)))
+      | inl i ↦ subst (λ j. LeastFrom m j k (link (set first x (Some k)) j)) (sym i) (subst (LeastFrom m x k) (sym (get_or-set_same first x (Some k) None within)) begin)
+      | inr ne ↦ subst (LeastFrom m s k) (sym (get_or-set_other first x s (Some k) None ne)) (wider (d.firsts s hs) (λ h. ne (same h)))
     ];
-    nexts = λ s e y le h. elim (cases_eq e k) [
+    nexts = λ s e le h. elim (cases_eq e k) [
       | inl i ↦
-          let same : s ≡ x = same_start m k (subst (λ j. m.ends j ≡ Some (s, y)) i h) leads in
-          subst (λ j. LeastFrom m s (j + 1) (get_or (set next k (get_or first x 0)) j 0)) (sym i)
-          (subst (LeastFrom m s (k + 1)) (sym (get_or-set_same next k (get_or first x 0) 0 room)) (subst (λ j. LeastFrom m j (k + 1) (get_or first x 0)) (sym same) (d.firsts x hx)))
-      | inr ne ↦ subst (LeastFrom m s (e + 1)) (sym (get_or-set_other next k e (get_or first x 0) 0 ne)) (d.nexts s e y (omega arith) h)
+          subst (λ j. LeastFrom m s (j + 1) (link (set next k (link first x)) j)) (sym i)
+          (subst (LeastFrom m s (k + 1)) (sym (get_or-set_same next k (link first x) None room)) (subst (λ j. LeastFrom m j (k + 1) (link first x)) (sym (same (subst (λ j. start_of m j ≡ Some s) i h))) (d.firsts x hx)))
+      | inr ne ↦ subst (LeastFrom m s (e + 1)) (sym (get_or-set_other next k e (link first x) None ne)) (d.nexts s e (omega arith) h)
     ];
   }
     where
-      begin : LeastFrom m x k k
-      begin = record { low = omega arith; most = omega arith; gap = λ f y le lt h. absurd (omega arith); leaves = λ lt. (z, leads) }
+      same : {s : ℕ} → start_of m k ≡ Some s → s ≡ x
+      same h = cc
+
+      begin : LeastFrom m x k (Some k)
+      begin = record {
+        low = omega arith;
+        most = omega arith;
+        gap = λ f le lt h. absurd (omega arith);
+        leaves = λ e h. (let i : k ≡ e = cc in subst (λ j. (j < m.count) × (start_of m j ≡ Some x)) i (hk, leads));
+      }
 
   -- the edges between two of a group leave other stops
-  pub skips : {S B : ℕ → Type 0} {u t n e : ℕ} {old new : ℕ → ℕ} → Relaxed m S B u t n old new → LeastFrom m u n e → Relaxed m S B u t e old new
+  pub skips : {S B : ℕ → Type 0} {u t n : ℕ} {o : Option ℕ} {old new : ℕ → ℕ} → Relaxed m S B u t n old new → LeastFrom m u n o → Relaxed m S B u t (or_count m o) old new
   skips {n = n} r next = record {
     lower = r.lower;
-    each = λ f y a lt h. elim (cases_lt f n) [ inl less ↦ r.each f y a less h | inr more ↦ absurd (next.gap f y more lt h.takes.leads) ];
+    each = λ f y a lt h. elim (cases_lt f n) [ inl less ↦ r.each f y a less h | inr more ↦ absurd (next.gap f more lt (leaves_stop m f h.takes.leads)) ];
     from = r.from;
   }
+
+-- the edges that leave stop s, gone along up to edge e: the next is the least further one
+module _ {m : Meaning} {first next : List (Option ℕ)} (d : Grouped m 0 first next) {s : ℕ} {before after : Leaving} {e : ℕ}
+    (same : before.next.now ≡ next) (leaves : ForSome before.edge (λ e. (e < m.count) × (start_of m e ≡ Some s))) (steps : Steps before (Some e) after) where
+  pub further : LeastFrom m s (e + 1) after.edge
+  further =
+      let on = subst (λ o. MatchOption o (after.edge ≡ None) (λ e. after.edge ≡ link before.next.now e)) (sym steps.here) steps.moved in
+      subst (LeastFrom m s (e + 1)) (sym (on ∙ ap (λ es. link es e) same)) (d.nexts s e (omega arith) (leaves e (sym steps.here)).1)
+
+  pub standing : or_count m before.edge ≡ e
+  standing = ap (or_count m) (sym steps.here)
+
+  pub still : after.next.now ≡ next
+  still = steps.same ∙ same

@@ -1,6 +1,6 @@
 mod Chains
 mod Picked
 mod Trying
-mod Passing
 mod Tracing
 mod Refusing
+mod Passing

@@ -1,5 +1,7 @@
 -- One edge more is tried, where the arrivals stand in a list.
-use Rattle.std.proofs.Common.{ℕ, ◌+◌, ◌<◌, ◌≤◌, List, length, get_or, set, ap, arith, get_or-set_other, get_or-set_same}
+use Rattle.std.proofs.Common.{◌≡◌, ℕ, ◌+◌, ◌<◌, ◌≤◌, min, List, length, get_or, set, sym, ap, subst, inl, inr, arith, get_or-set_other, get_or-set_same}
+use Rattle.std.proofs.lemmas.List.{set-get_or}
+use Rattle.std.proofs.lemmas.Bool.{cases_lt}
 use Rattle.networks.specs.Networks.{Meaning}
 use Rattle.journey_laws.specs.Arrivals.{Hop, Relaxed}
 use Rattle.journey_laws.proofs.Taking.{same_stop, same_time}
@@ -17,3 +19,12 @@ module _ {m : Meaning} {S B : ℕ → Type 0} {u t n : ℕ} {old : ℕ → ℕ} 
 
   pub earlier : {y a : ℕ} → Hop m S B u t n y a → a < get_or new y 0 → y < length new → Relaxed m S B u t (n + 1) old (at (set new y a))
   earlier {y} {a} h lt within = writes r h lt (get_or-set_same new y a 0 within) (λ z ne. get_or-set_other new y z a 0 ne)
+
+  -- the stop's arrival falls to the edge's, where that is earlier
+  pub lowered : {y a v : ℕ} → v ≡ min (get_or new y 0) a → Hop m S B u t n y a → y < length new → Relaxed m S B u t (n + 1) old (at (set new y v))
+  lowered {y} {a} {v} e h within = elim (cases_lt a (get_or new y 0)) [
+    | inl lt ↦ let z : a ≡ v = omega (arith, e) in subst (λ w. Relaxed m S B u t (n + 1) old (at (set new y w))) z (earlier h lt within)
+    | inr ge ↦
+        let z : get_or new y 0 ≡ v = omega (arith, e) in
+        subst (λ w. Relaxed m S B u t (n + 1) old (at (set new y w))) z (subst (λ xs. Relaxed m S B u t (n + 1) old (at xs)) (sym (set-get_or new y 0)) (no_earlier h ge))
+  ]

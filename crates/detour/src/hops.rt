@@ -8,6 +8,13 @@ ghost use Rattle.journey_laws.specs.Arrivals.{Tried};
 use networks::Network;
 use stops::StopSet;
 
+// What a detour goes round: shut stops, and edges that its first step may not take.
+#[derive(Clone, Copy)]
+pub struct Around<'a> {
+    pub shut: &'a StopSet,
+    pub barred: &'a [u16],
+}
+
 // Tries an edge from a stop at an instant: where and when it arrives, unless it is barred or reaches the origin or a shut stop.
 pub fn try_edge<N: Network>(
     network: &N,
@@ -15,13 +22,12 @@ pub fn try_edge<N: Network>(
     stop: u8,
     instant: u32,
     origin: u8,
-    shut: &StopSet,
-    barred: &[u16],
+    around: &Around,
 ) -> Option<(u8, u32)>
-    ensures { Tried (N.Network.meaning network.now) (Also origin (Holds shut.now)) (λ e. In e barred.now) stop instant edge result }
+    ensures { Tried (N.Network.meaning network.now) (Also origin (Holds around.now.shut.now)) (λ e. In e around.now.barred.now) stop instant edge result }
 {
     let (from, to) = network.ends(edge)?;
-    if from != stop || to == origin || shut.contains(to) || is_barred(barred, edge) {
+    if from != stop || to == origin || around.shut.contains(to) || is_barred(around.barred, edge) {
         return None;
     }
     let arrival = network.lookup(edge, instant)?;

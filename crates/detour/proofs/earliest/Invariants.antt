@@ -9,7 +9,7 @@ abbrev pub invariant-loop-arrivals : goal.invariant-loop-arrivals
 invariant-loop-arrivals g l =
     (length l.arrivals ≡ 256)
     × (member l.settled l.destination ≡ false)
-    × Front (g.N.Network.meaning l.departures.network.now) (Also l.stop (Holds l.shut)) (λ e. In e l.barred) l.stop l.instant (λ y. get_or l.arrivals y 0) (member l.settled)
+    × Front (g.N.Network.meaning l.departures.network.now) (Also l.stop (Holds l.around.shut.now)) (λ e. In e l.around.barred.now) l.stop l.instant (λ y. get_or l.arrivals y 0) (member l.settled)
 
 abbrev pub decreases-loop-arrivals : goal.decreases-loop-arrivals
 decreases-loop-arrivals g l = left (member l.settled) 256

@@ -1,15 +1,15 @@
-use Rattle.std.proofs.Common.{◌≡◌, ℕ, ◌-◌, ◌<◌, ◌≤◌, get_or, Some}
+use Rattle.std.proofs.Common.{◌≡◌, ◌<◌, get_or, Some}
+use Rattle.std.specs.Option.{ForSome}
 use Rattle.stops.specs.Sets.{Holds}
 use Rattle.journeys.specs.Journeys.{In}
 use Rattle.journey_laws.specs.Ways.{Also}
 use Rattle.journey_laws.specs.Arrivals.{Relaxed}
+use Rattle.detour.specs.Departing.{start_of, or_count}
 use Rattle.detour.proofs.relax.Given as goal
 
 abbrev pub invariant-loop-edge : goal.invariant-loop-edge
 invariant-loop-edge g l =
-    (l.edge ≤ l.count)
-    × (l.edge < l.count → (y : ℕ) × ((g.N.Network.meaning l.departures.network.now).ends l.edge ≡ Some (l.stop, y)))
-    × Relaxed (g.N.Network.meaning l.departures.network.now) (Also l.origin (Holds l.shut)) (λ e. In e l.barred) l.stop l.instant l.edge (λ y. get_or l.initial.arrivals y 0) (λ y. get_or l.arrivals y 0)
-
-abbrev pub decreases-loop-edge : goal.decreases-loop-edge
-decreases-loop-edge g l = l.count - l.edge
+    let m = g.N.Network.meaning l.departures.network.now in
+    (l.edge-iterator.next.now ≡ l.departures.next)
+    × ForSome l.edge-iterator.edge (λ e. (e < m.count) × (start_of m e ≡ Some l.stop))
+    × Relaxed m (Also l.origin (Holds l.around.shut.now)) (λ e. In e l.around.barred.now) l.stop l.instant (or_count m l.edge-iterator.edge) (λ y. get_or l.initial.arrivals y 0) (λ y. get_or l.arrivals y 0)

@@ -6,11 +6,11 @@ use Rattle.journey_laws.proofs.Settling.{left}
 use Rattle.detour.proofs.Tracing.{Tracing}
 use Rattle.detour.proofs.trace.Given as goal
 
-abbrev pub invariant-loop-here : goal.invariant-loop-here
-invariant-loop-here g l =
-    (length l.edges ≡ 255) × (l.count ≤ 255) × (l.here.destination ≡ l.initial.here.destination) × (l.here.latest ≡ l.initial.here.latest)
-    × Tracing (g.N.Network.meaning l.departures.network.now) (Onward (g.N.Network.meaning l.departures.network.now) (Holds l.initial.shut) (λ e. In e l.initial.barred) l.initial.here.stop l.initial.here.instant l.initial.here.destination l.initial.here.latest) l.here.destination l.here.latest
-    l.initial.edges l.edges l.count l.here.stop l.here.instant l.shut l.barred
+abbrev pub invariant-loop-stop : goal.invariant-loop-stop
+invariant-loop-stop g l =
+    let m = g.N.Network.meaning l.departures.network.now in
+    (length l.edges ≡ 255) × (l.count ≤ 255)
+    × Tracing m (Onward m (Holds l.initial.shut) (λ e. In e l.initial.barred) l.initial.stop l.initial.instant l.destination l.latest) l.destination l.latest l.initial.edges l.edges l.count l.stop l.instant l.shut l.barred
 
-abbrev pub decreases-loop-here : goal.decreases-loop-here
-decreases-loop-here g l = left (member l.shut) 256
+abbrev pub decreases-loop-stop : goal.decreases-loop-stop
+decreases-loop-stop g l = left (member l.shut) 256
