@@ -1,10 +1,10 @@
 // Each case: from a stop at an instant to a destination by a latest arrival, around shut stops and barred edges; and what detour answers.
-use detour::detour;
-use std::alloc::Global;
+use detour::{Course, detour};
+use station::{CONNECTIONS, FOOTPATHS};
 use std::process::Abort;
 use std::test::Fail;
 use stops::StopSet;
-use timetable::records::{Connection, Footpath};
+use timetable::records::Footpath;
 use timetable::table::DayTable;
 
 // stop, destination, instant, latest
@@ -96,40 +96,6 @@ const ROUND: [(Asked, &[u8], &[u16], Told); 6] = [
     ((1, 3, 172_800, 172_800), &[2], &[5], Ok((172_800, &[3, 6]))),
 ];
 
-fn station(rt: &impl Abort, heap: Global) -> Result<DayTable, Fail> {
-    let rides = [
-        (0, 1, 28_800, 29_400, 0),
-        (0, 2, 28_860, 29_700, 1),
-        (1, 3, 29_460, 30_600, 0),
-        (2, 3, 29_760, 30_300, 1),
-        (1, 3, 30_000, 30_600, 2),
-    ];
-    let mut connections = Vec::new(heap);
-    for (from, to, departure, arrival, trip) in rides {
-        connections.push(Connection {
-            from,
-            to,
-            departure,
-            arrival,
-            trip,
-        })?;
-    }
-    let mut table = DayTable::new(heap)?;
-    assert!(rt;
-        table
-            .fill(
-                &connections,
-                &[Footpath {
-                    from: 1,
-                    to: 2,
-                    duration: 240,
-                }],
-            )
-            .is_ok()
-    );
-    Ok(table)
-}
-
 // Asks for a detour, and checks its answer, the buffer's rest, and that the set of shut stops holds what it held.
 fn check_case(
     rt: &impl Abort,
@@ -140,43 +106,38 @@ fn check_case(
     told: Told,
 ) {
     let (stop, destination, instant, latest) = asked;
+    let course = Course {
+        stop,
+        instant,
+        destination,
+        latest,
+    };
     let mut set = StopSet::empty();
     for s in shut {
         set.insert(*s);
     }
     let mut buffer = [60_000u16; 255];
-    let answer = detour(
-        table,
-        stop,
-        destination,
-        instant,
-        latest,
-        &mut set,
-        barred,
-        &mut buffer,
-    );
+    let answer = detour(table, course, &mut set, barred, &mut buffer);
     let mut expected = [60_000u16; 255];
     match (answer, told) {
         (Ok((arrival, count)), Ok((at, edges))) => {
             assert_eq!(rt; arrival, at);
             assert_eq!(rt; count, edges.len());
-            for (place, edge) in expected.iter_mut().zip(edges.iter()) {
-                *place = *edge;
-            }
+            expected[..count].copy_from_slice(edges);
         }
         (Err(refusal), Err(number)) => assert_eq!(rt; refusal.number(), number),
         _ => assert!(rt; false),
     }
     assert!(rt; buffer == expected);
-    for s in 0..256u16 {
-        let s = s as u8;
+    for s in 0..=255 {
         assert_eq!(rt; set.contains(s), shut.contains(&s));
     }
 }
 
 #[test]
 fn around_the_station(rt: HostRuntime) -> Result<(), Fail> {
-    let table = station(&rt, rt.alloc())?;
+    let mut table = DayTable::new(rt.alloc())?;
+    assert!(rt; table.fill(&CONNECTIONS, &FOOTPATHS).is_ok());
     for (asked, shut, barred, told) in STATION {
         check_case(&rt, &table, asked, shut, barred, told);
     }

@@ -4,7 +4,53 @@
 ghost use Rattle.std.specs.Prelude.{◌≡◌};
 ghost use Rattle.station.specs.Headways.{example_line, HeadwaysStand};
 
-use timetable::records::Line;
+use timetable::records::{Connection, Footpath, Line};
+
+// The connections of the example: edges 0 to 4.
+pub const CONNECTIONS: [Connection; 5] = [
+    Connection {
+        from: 0,
+        to: 1,
+        departure: 28_800,
+        arrival: 29_400,
+        trip: 0,
+    },
+    Connection {
+        from: 0,
+        to: 2,
+        departure: 28_860,
+        arrival: 29_700,
+        trip: 1,
+    },
+    Connection {
+        from: 1,
+        to: 3,
+        departure: 29_460,
+        arrival: 30_600,
+        trip: 0,
+    },
+    Connection {
+        from: 2,
+        to: 3,
+        departure: 29_760,
+        arrival: 30_300,
+        trip: 1,
+    },
+    Connection {
+        from: 1,
+        to: 3,
+        departure: 30_000,
+        arrival: 30_600,
+        trip: 2,
+    },
+];
+
+// Its footpath: edge 5.
+pub const FOOTPATHS: [Footpath; 1] = [Footpath {
+    from: 1,
+    to: 2,
+    duration: 240,
+}];
 
 // The line of the example; its lookups are the ones written in the table.
 pub fn example_line() -> Line

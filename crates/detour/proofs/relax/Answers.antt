@@ -1,4 +1,4 @@
-use Rattle.std.proofs.Common.{ℕ, length, get_or, subst, arith}
+use Rattle.std.proofs.Common.{subst, arith}
 use Rattle.stops.specs.Sets.{Holds}
 use Rattle.journeys.specs.Journeys.{In}
 use Rattle.journey_laws.specs.Ways.{Also}

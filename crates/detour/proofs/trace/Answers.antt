@@ -1,8 +1,5 @@
-use Rattle.std.proofs.Common.{◌<◌, length, take, refl, subst, arith, length-set}
-use Rattle.stops.specs.Sets.{member, Holds}
-use Rattle.journeys.specs.Journeys.{In}
-use Rattle.journeys.specs.Rank.{FirstInRank}
-use Rattle.journey_laws.specs.Ways.{Onward}
+use Rattle.std.proofs.Common.{◌<◌, length, arith, length-set}
+use Rattle.stops.specs.Sets.{member}
 use Rattle.journey_laws.specs.Arrivals.{Settles}
 use Rattle.detour.proofs.Tracing.{trace_start, trace_end, goes_on, trace_less, fits, trace_more}
 use Rattle.detour.proofs.trace.Goals as goal
