@@ -27,10 +27,6 @@ module _ (m : Meaning) (S B : ℕ → Type 0) (u t d latest : ℕ) where
     ]
   ]
 
-  -- an edge that cannot be taken can begin no journey
-  pub untaken : {e : ℕ} → ((v s : ℕ) → ¬ Hop m (Also u S) B u t e v s) → ¬ Usable m S B u t d latest e
-  untaken h k = h k.stop k.instant (record { takes = k.takes; unbarred = k.unbarred; not_shut = k.not_shut })
-
   module _ (here : S u) where
     narrower : {v s : ℕ} → Leading m (Also u S) v s d latest → Leading m S v s d latest
     narrower {v} {s} (a, es, j) = (a, es, fewer_onward m (Also u S) S Nothing Nothing v s d latest a es (λ x h. elim h [ inl e ↦ inl e | inr k ↦ inr (inr k) ]) (λ e n. n) j)

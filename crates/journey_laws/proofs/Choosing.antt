@@ -1,5 +1,5 @@
 -- A journey that is chosen edge by edge is the first in rank.
-use Rattle.std.proofs.Common.{◌≡◌, ℕ, ◌≤◌, ◌↔◌, List, [], ◌∷◌, ◌++◌, Some, refl, subst, inl, inr, append_assoc, append-nil, le_trans, le_refl, arith}
+use Rattle.std.proofs.Common.{◌≡◌, ℕ, ◌≤◌, ◌↔◌, List, [], ◌∷◌, ◌++◌, Some, refl, subst, inl, inr, append_assoc, append-nil, le_refl, arith}
 use Rattle.networks.specs.Networks.{Meaning}
 use Rattle.journeys.specs.Journeys.{Unbarred}
 use Rattle.journeys.specs.Rank.{Before, FirstInRank}
@@ -97,16 +97,6 @@ module _ (m : Meaning) where
 module _ (m : Meaning) (S B : ℕ → Type 0) (u t d latest a : ℕ) (f : Found m S B u t d latest 0 (Some a)) where
   least_of_all : (b : ℕ) (es : List ℕ) → Onward m S B u t d latest b es → a ≤ b
   least_of_all b es j = elim (f.2 b es j) [ inl h ↦ h | inr h ↦ omega arith ]
-
-  pub earliest_found : Earliest m S B u t d a
-  earliest_found =
-      let (b, es, le, j) = f.0 in
-      let same : b ≡ a = let h = least_of_all b es j in omega arith in
-      let here : Onward m S B u t d a b es = record { way = j.way; unbarred = j.unbarred; in_time = le } in
-      record {
-        arrives = (es, subst (λ (x : ℕ). Onward m S B u t d a x es) same here);
-        least = λ c fs k. least_of_all c fs (record { way = k.way; unbarred = k.unbarred; in_time = le_trans k.in_time f.1 });
-      }
 
   -- the first of those that arrive by the earliest arrival is the first of all
   pub first_of_all : (es : List ℕ) → FirstInRank (Onward m S B u t d a) a es → FirstInRank (Onward m S B u t d latest) a es

@@ -1,14 +1,11 @@
 -- One edge more is tried.
-use Rattle.std.proofs.Common.{◌≡◌, ℕ, ◌+◌, ◌<◌, ◌≤◌, ◌≢◌, sym, refl, ap, ◌∙◌, subst, inl, inr, arith}
+use Rattle.std.proofs.Common.{◌≡◌, ℕ, ◌+◌, ◌<◌, ◌≤◌, ◌≢◌, sym, ap, ◌∙◌, subst, inl, inr, arith}
 use Rattle.std.proofs.lemmas.Bool.{cases_eq}
 use Rattle.networks.specs.Networks.{Meaning}
 use Rattle.journey_laws.specs.Arrivals.{Hop, Relaxed}
 use Rattle.journey_laws.proofs.Taking.{same_stop, same_time}
 
 module _ {m : Meaning} {S B : ℕ → Type 0} {u t : ℕ} where
-  pub none_tried : (old : ℕ → ℕ) → Relaxed m S B u t 0 old old
-  none_tried old = record { lower = λ y. omega arith; each = λ e y a lt h. absurd (omega arith); from = λ y. inl refl }
-
   -- the edge cannot be taken, or reaches its stop no earlier
   pub keeps : {n : ℕ} {old new : ℕ → ℕ} → Relaxed m S B u t n old new → ((y a : ℕ) → Hop m S B u t n y a → new y ≤ a) → Relaxed m S B u t (n + 1) old new
   keeps {n} r late = record {
