@@ -1,6 +1,6 @@
 pub mod Delays
 pub mod Gates
+pub mod Layers
 pub mod Piles
-pub mod Fronts
 pub mod Gated
 pub mod Delayed

@@ -1,15 +1,9 @@
-use Rattle.std.proofs.Common.{inl, inr, arith}
-use Rattle.std.proofs.lemmas.List.{length-take-le}
-use Rattle.std.proofs.lemmas.Bool.{cases_lt}
-use Rattle.refusals.specs.declared.NoticeRefusal.TheVariants.{TooManyNotices, NoticeRepeated}
+use Rattle.std.proofs.Common.{sym, subst, ◌∙◌}
+use Rattle.layers.specs.Delays.{Once}
+use Rattle.layers.specs.Delayed.{once_more}
 use Rattle.layers.proofs.notices.Notices.add.Goals as goal
 
-pub push-requires : goal.push-requires
-push-requires c =
-    let s = c.args.self.now in
-    let fit = c.in_ok-allow.ensures.answer in
-    let whole = s.whole in
-    let few = s.few in (
-      elim (cases_lt s.held 32) [ inl lt ↦ lt | inr ge ↦ absurd (fit TooManyNotices (let l = length-take-le s.held s.list (omega arith) in omega arith)) ],
-      fit NoticeRepeated,
-    )
+pub invariant_of-self : goal.invariant_of-self
+invariant_of-self c = record {
+  once = subst Once (sym c.push.ensures.items) (once_more c.args.self.now.list.items c.args.notice c.delay.result c.args.self.now.once c.delay.ensures.law (sym c.is_some.ensures ∙ c.if-is_some.false));
+}
