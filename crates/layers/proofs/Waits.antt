@@ -1,4 +1,4 @@
--- A wait goes on at the end of the first window that shuts the edge.
+-- A wait goes on at the end of the first window that shuts the edge, and is over where there is none.
 use Rattle.std.proofs.Common.{◌≡◌, ℕ, ◌<◌, List, length, Option, Some, None, option_map, ◌∙◌, sym, subst, inl, inr, arith}
 use Rattle.std.proofs.lemmas.Bool.{cases_lt}
 use Rattle.std.proofs.lemmas.List.Folds.{find_at, list_any_none}
@@ -9,7 +9,7 @@ use Rattle.layers.specs.Gates.{covers, least_open, ending_after, Wait}
 use Rattle.layers.specs.Gated.{Ends, wait_over, wait_goes_on}
 use Rattle.layers.specs.declared.windows.Window.{Window}
 
-pub waits : (ws : List Window) (e t : ℕ) → All Ends ws → Wait ws e t (option_map (λ w. w.until) (find (covers e t) ws))
+waits : (ws : List Window) (e t : ℕ) → All Ends ws → Wait ws e t (option_map (λ w. w.until) (find (covers e t) ws))
 waits ws e t h =
     let k = position_or_len (covers e t) ws in
     let none : Window = record { edge = 0; from = 0; until = 0 } in
@@ -18,8 +18,8 @@ waits ws e t h =
       | inr past ↦ rw (find_at (covers e t) ws ∙ slice_get_past ws k past) (wait_over ws e t h (list_any_none (covers e t) ws (λ j d l. fails_before_first (covers e t) ws j d (omega arith))))
     ]
 
-pub on : (ws : List Window) (e t u : ℕ) → All Ends ws → Some u ≡ option_map (λ w. w.until) (find (covers e t) ws) → (ending_after u ws < ending_after t ws) × (least_open ws e u ≡ least_open ws e t)
-on ws e t u h y = subst (Wait ws e t) (sym y) (waits ws e t h)
+pub on : (ws : List Window) (e t : ℕ) (w : Window) → All Ends ws → Some w ≡ find (covers e t) ws → (ending_after w.until ws < ending_after t ws) × (least_open ws e w.until ≡ least_open ws e t)
+on ws e t w h y = subst (λ o. Wait ws e t (option_map (λ v. v.until) o)) (sym y) (waits ws e t h)
 
-pub over : (ws : List Window) (e t : ℕ) → All Ends ws → None ≡ option_map (λ w. w.until) (find (covers e t) ws) → least_open ws e t ≡ t
-over ws e t h y = subst (Wait ws e t) (sym y) (waits ws e t h)
+pub over : (ws : List Window) (e t : ℕ) → All Ends ws → None ≡ find (covers e t) ws → least_open ws e t ≡ t
+over ws e t h y = subst (λ o. Wait ws e t (option_map (λ v. v.until) o)) (sym y) (waits ws e t h)

@@ -1,5 +1,5 @@
 // The windows of a gate: up to sixteen, each of them a time during which an edge is shut.
-ghost use Rattle.std.specs.Prelude.{◌≡◌, ◌∷◌, ◌++◌, [], All, MatchResult, option_map, refl};
+ghost use Rattle.std.specs.Prelude.{◌≡◌, ◌∷◌, ◌++◌, [], All, MatchResult, option_copied, refl};
 ghost use Rattle.std.specs.List.{find};
 ghost use Rattle.refusals.specs.Verdicts.{Judged};
 ghost use Rattle.refusals.specs.declared.Refusal.TheVariants.{OfWindow};
@@ -62,20 +62,17 @@ impl Windows {
         ensures law { LeastOpen self.now.list.items edge instant result }
     {
         let mut open = instant;
-        while let Some(until) = self.wait(edge, open) {
-            open = until;
+        while let Some(window) = self.shutting(edge, open) {
+            open = window.until;
         }
         open
     }
 
-    // The end of a window that shuts the edge at the instant, if there is one.
-    fn wait(&self, edge: u16, instant: u32) -> Option<u32>
-        ensures { result ≡ option_map (λ w. w.until) (find (covers edge instant) self.now.list.items) }
+    // The first window that shuts the edge at the instant, if there is one.
+    fn shutting(&self, edge: u16, instant: u32) -> Option<&Window>
+        ensures { option_copied result ≡ find (covers edge instant) self.now.list.items }
     {
-        self.list
-            .iter()
-            .find(|window| window.covers(edge, instant))
-            .map(|window| window.until)
+        self.list.iter().find(|window| window.covers(edge, instant))
     }
 }
 
