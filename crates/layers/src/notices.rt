@@ -95,9 +95,7 @@ impl Rule for Notices {
 fn later(arrival: u32, seconds: u32) -> Option<u32>
     ensures { result ≡ later (Some seconds) (Some arrival) }
 {
-    if seconds <= DAY_END && arrival <= DAY_END - seconds {
-        Some(arrival + seconds)
-    } else {
-        None
-    }
+    arrival
+        .checked_add(seconds)
+        .filter(|later| *later <= DAY_END)
 }
