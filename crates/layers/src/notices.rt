@@ -35,6 +35,7 @@ impl Default for Notices {
 
 impl Notices {
     // Adds a notice for one of the edges below `edges`.
+    #[tactic(auto, using(crate::specs::Delayed::once_more))]
     pub fn add(&mut self, edges: u16, notice: Notice) -> Result<(), NoticeRefusal>
         ensures answer { Judged OfNotice (33 ∷ 34 ∷ 35 ∷ 36 ∷ []) (UnfitNotice edges self.old.list.items notice) result }
         ensures after { MatchResult result (λ _. self.new.list.items ≡ self.old.list.items ++ notice ∷ []) (λ _. self.new ≡ self.old) }
@@ -56,6 +57,7 @@ impl Notices {
     }
 
     // The seconds of the edge's notice, if it has one.
+    #[tactic(auto, using(crate::specs::Delayed::the_notice))]
     pub fn delay(&self, edge: u16) -> Option<u32>
         ensures answer { result ≡ seconds_of self.now.list.items edge }
         ensures law { TheNotice self.now.list.items edge result }
