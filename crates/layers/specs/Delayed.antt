@@ -1,12 +1,12 @@
 -- Late notices: the edge's notice is found, one more keeps them of different edges, and a network under notices keeps the laws.
-use Rattle.std.specs.Prelude.{◌≡◌, ℕ, zero, suc, ◌+◌, ◌<◌, ◌≤◌, List, [], ◌∷◌, ◌++◌, length, false, is_some, Some, None, Option, ◌==◌, ◌≢◌, refl}
+use Rattle.std.specs.Prelude.{◌≡◌, ℕ, zero, suc, List, [], ◌∷◌, ◌++◌, false, is_some, Some, None, Option, ◌==◌, ◌≢◌, refl}
 use Rattle.std.proofs.Common.{sym, ap, ◌∙◌, inl, inr, arith}
 use Rattle.std.proofs.lemmas.List.{get_or_default}
 use Rattle.std.proofs.lemmas.List.Quantifiers.{all_pairs_push}
-use Rattle.std.proofs.lemmas.Bool.{cases_Bool, cases_lt, eqb-true, eqb-false}
+use Rattle.std.proofs.lemmas.Bool.{cases_Bool, eqb-true, eqb-false}
 use Rattle.std.proofs.lemmas.Bool.Decides.{nat_tests}
 use Rattle.networks.specs.Networks.{Meaning, Lawful, InDay, NotBefore, NoLater}
-use Rattle.layers.specs.Delays.{NoticeAt, Noticed, TheNotice, Once, seconds_of, later, delayed}
+use Rattle.layers.specs.Delays.{NoticeAt, TheNotice, Once, seconds_of, later, delayed}
 use Rattle.layers.specs.declared.notices.Notice.{Notice}
 
 -- a notice of another edge in front changes nothing
@@ -43,8 +43,8 @@ once_more ns n (Some s) once is none = cc
 once_more ns n None once is none =
     all_pairs_push (λ a b. a.edge ≢ b.edge) ns n once (λ k d l e. is (k, (l, λ d'. ap (λ z. z.edge) (get_or_default ns k d' d l) ∙ e)))
 
-pub delayed_nothing : (ns : List Notice) (m : Meaning) → ns ≡ [] → delayed ns m ≡ m
-delayed_nothing ns m e = ap (λ (ls : List Notice). delayed ls m) e
+pub delayed_unchanged : (ns : List Notice) (m : Meaning) → ns ≡ [] → delayed ns m ≡ m
+delayed_unchanged ns m e = ap (λ (ls : List Notice). delayed ls m) e
 
 later_day : (o a : Option ℕ) → InDay a → InDay (later o a)
 later_day None a h = h

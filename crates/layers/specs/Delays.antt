@@ -1,5 +1,5 @@
 -- Late notices: the notice of an edge, and what a network means under notices.
-use Rattle.std.specs.Prelude.{◌≡◌, ℕ, ◌+◌, ◌<◌, ◌≤◌, cond, List, [], ◌∷◌, length, Some, None, Option, option_map, ◌==◌, ◌≢◌, nat_le}
+use Rattle.std.specs.Prelude.{◌≡◌, ℕ, ◌+◌, ◌<◌, ◌≤◌, cond, List, length, Some, None, Option, option_map, ◌==◌, ◌≢◌, nat_le}
 use Rattle.std.specs.List.{HoldsAt, AllPairs, find}
 use Rattle.networks.specs.Networks.{Meaning, day_end}
 use Rattle.refusals.specs.declared.NoticeRefusal.{NoticeRefusal}

@@ -5,8 +5,8 @@ use Rattle.std.proofs.lemmas.List.{get_or_default}
 use Rattle.std.proofs.lemmas.List.Sums.{sum_by-cons}
 use Rattle.std.proofs.lemmas.Bool.{cases_Bool, cases_lt, both_ways}
 use Rattle.std.proofs.lemmas.Bool.Decides.{nat_tests, Decides-and, Decides-by_or, Decides-eqb, Decides-ltb}
-use Rattle.std.proofs.lemmas.List.Elements.{recursion_from_All}
-use Rattle.std.specs.List.{All, AllByRecursion}
+use Rattle.std.proofs.lemmas.List.Folds.{list_any_none}
+use Rattle.std.specs.List.{All}
 use Rattle.networks.specs.Networks.{Meaning, Lawful, day_end}
 use Rattle.networks.proofs.Laws.{sooner}
 use Rattle.layers.specs.Gates.{Covers, Shut, LeastOpen, covers, shut, first_failing, least_open, gated, ending_after, Wait}
@@ -64,12 +64,11 @@ abbrev pub Ends : Window → Type 0
 Ends w = w.until ≤ day_end
 
 -- at the end of the day no window shuts
-past : (ws : List Window) (e s : ℕ) → AllByRecursion Ends ws → day_end ≤ s → shut ws e s ≡ false
-past [] e s h l = refl
-past (w ∷ ws) e s h l = let k = past ws e s h.1 l in let j = h.0 in grind (arith, nat_tests)
+past : (ws : List Window) (e s : ℕ) → All Ends ws → day_end ≤ s → shut ws e s ≡ false
+past ws e s h l = list_any_none (covers e s) ws (λ k d m. let j = h k d m in grind (arith, nat_tests))
 
 open_first : (ws : List Window) (e t : ℕ) → All Ends ws → First (shut ws e) t (least_open ws e t)
-open_first ws e t h = failing_first (shut ws e) day_end t (λ s l. past ws e s (recursion_from_All Ends ws h) (omega arith))
+open_first ws e t h = failing_first (shut ws e) day_end t (λ s l. past ws e s h (omega arith))
 
 pub least_open_is : (ws : List Window) (e t : ℕ) → All Ends ws → LeastOpen ws e t (least_open ws e t)
 least_open_is ws e t h =
@@ -85,8 +84,8 @@ gated_none : (m : Meaning) → gated [] m ≡ m
 unfolding first_failing
 gated_none m = refl
 
-pub gated_nothing : (ws : List Window) (m : Meaning) → ws ≡ [] → gated ws m ≡ m
-gated_nothing ws m e = ap (λ (vs : List Window). gated vs m) e ∙ gated_none m
+pub gated_unchanged : (ws : List Window) (m : Meaning) → ws ≡ [] → gated ws m ≡ m
+gated_unchanged ws m e = ap (λ (vs : List Window). gated vs m) e ∙ gated_none m
 
 -- fewer windows end after the end of a window than before it
 fewer_or_same : (ws : List Window) (t u : ℕ) → t ≤ u → ending_after u ws ≤ ending_after t ws

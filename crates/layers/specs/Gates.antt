@@ -1,5 +1,5 @@
 -- Gate hours: when an edge is shut, the least instant at which it is not, and what a network means behind windows.
-use Rattle.std.specs.Prelude.{◌≡◌, ℕ, zero, suc, ◌+◌, ◌<◌, ◌≤◌, Bool, false, cond, ◌&&◌, ◌||◌, ltb, ◌⊎◌, List, [], ◌∷◌, length, Some, None, count_by, Option, ◌==◌, nat_le, nat_lt}
+use Rattle.std.specs.Prelude.{◌≡◌, ℕ, zero, suc, ◌+◌, ◌<◌, ◌≤◌, Bool, cond, ◌&&◌, ltb, ◌⊎◌, List, length, Some, None, count_by, Option, ◌==◌, nat_le, nat_lt}
 use Rattle.std.specs.List.{HoldsAt, list_any}
 use Rattle.networks.specs.Networks.{Meaning, day_end}
 use Rattle.refusals.specs.declared.WindowRefusal.{WindowRefusal}

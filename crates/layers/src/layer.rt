@@ -1,11 +1,11 @@
 // A layer over any network, again a network: the network below it under a rule.
 ghost use Rattle.std.specs.Prelude.{◌≡◌};
 ghost use Rattle.networks.specs.Networks.{Meaning, Lawful};
-ghost use Rattle.layers.specs.Layers.{layer_meaning};
+ghost use Rattle.layers.specs.Piles.{layer_meaning};
 
 use networks::Network;
 
-// What a layer does to lookups; the count and the ends stay.
+// A kind of layer: what it makes of a network. Whatever keeps this, over whatever network, is a network again.
 pub trait Rule: Default + Drop {
     // What a network means under the rule.
     ghost over: { Self → Meaning → Meaning };
@@ -14,15 +14,19 @@ pub trait Rule: Default + Drop {
     fn lookup<N: Network>(&self, below: &N, edge: u16, instant: u32) -> Option<u32>
         ensures { result ≡ (over self.now (N.Network.meaning below.now)).lookup edge instant };
 
+    // Only lookups change.
     ghost same_count: { (r : Self) (m : Meaning) → (over r m).count ≡ m.count };
 
     ghost same_ends: { (r : Self) (m : Meaning) → (over r m).ends ≡ m.ends };
 
+    // The laws of a network stay.
     ghost lawful: { (r : Self) (m : Meaning) → Lawful m → Lawful (over r m) };
 
-    ghost nothing: { (r : Self) (m : Meaning) → Self.is_default r → over r m ≡ m };
+    // A rule that is new changes nothing.
+    ghost unchanged: { (r : Self) (m : Meaning) → Self.is_default r → over r m ≡ m };
 }
 
+// A network under a rule.
 #[derive(Drop)]
 pub struct Layer<N, R> {
     below: N,
@@ -30,7 +34,7 @@ pub struct Layer<N, R> {
 }
 
 impl<N: Network, R: Rule> Layer<N, R> {
-    // A layer over a network, with a rule that changes nothing.
+    // A layer over a network, which changes nothing yet.
     pub fn new(below: N) -> Layer<N, R>
         ensures answer { (result.below ≡ below) × R.Default.is_default result.rule }
         ensures law { layer_meaning R.Rule.over N.Network.meaning result ≡ N.Network.meaning below }

@@ -3,7 +3,7 @@ ghost use Rattle.std.specs.Prelude.{◌≡◌, ◌∷◌, ◌++◌, [], Some, Ma
 ghost use Rattle.refusals.specs.Verdicts.{Judged};
 ghost use Rattle.refusals.specs.declared.Refusal.TheVariants.{OfNotice};
 ghost use Rattle.layers.specs.Delays.{TheNotice, Once, seconds_of, later, delayed, UnfitNotice};
-ghost use Rattle.layers.specs.Delayed.{delayed_lawful, delayed_nothing};
+ghost use Rattle.layers.specs.Delayed.{delayed_lawful, delayed_unchanged};
 
 use crate::layer::Rule;
 use arrayvec::ArrayVec;
@@ -23,6 +23,7 @@ pub struct Notices {
     ghost once: { Once list.items },
 }
 
+// By hand, since no derive proves a ghost field.
 impl Default for Notices {
     ghost is_default = { λ held. held.list.items ≡ [] };
 
@@ -66,6 +67,7 @@ impl Notices {
     }
 }
 
+// The seconds of the first notice of the edge.
 fn delay_in(notices: &[Notice], edge: u16) -> Option<u32>
     ensures { result ≡ seconds_of notices.now edge }
 {
@@ -84,7 +86,7 @@ impl Rule for Notices {
 
     ghost lawful = { λ r. delayed_lawful r.list.items };
 
-    ghost nothing = { λ r m. delayed_nothing r.list.items m };
+    ghost unchanged = { λ r m. delayed_unchanged r.list.items m };
 
     fn lookup<N: Network>(&self, below: &N, edge: u16, instant: u32) -> Option<u32> {
         let arrival = below.lookup(edge, instant)?;

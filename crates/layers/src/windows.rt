@@ -4,7 +4,7 @@ ghost use Rattle.std.specs.List.{find};
 ghost use Rattle.refusals.specs.Verdicts.{Judged};
 ghost use Rattle.refusals.specs.declared.Refusal.TheVariants.{OfWindow};
 ghost use Rattle.layers.specs.Gates.{covers, gated, least_open, LeastOpen, UnfitWindow};
-ghost use Rattle.layers.specs.Gated.{Ends, gated_lawful, gated_nothing};
+ghost use Rattle.layers.specs.Gated.{Ends, gated_lawful, gated_unchanged};
 
 use crate::layer::Rule;
 use arrayvec::ArrayVec;
@@ -25,6 +25,7 @@ pub struct Windows {
     ghost ending: { All Ends list.items },
 }
 
+// By hand, since no derive proves a ghost field.
 impl Default for Windows {
     ghost is_default = { λ held. held.list.items ≡ [] };
 
@@ -85,7 +86,7 @@ impl Rule for Windows {
 
     ghost lawful = { λ r m. gated_lawful r.list.items m r.ending };
 
-    ghost nothing = { λ r m. gated_nothing r.list.items m };
+    ghost unchanged = { λ r m. gated_unchanged r.list.items m };
 
     fn lookup<N: Network>(&self, below: &N, edge: u16, instant: u32) -> Option<u32> {
         below.lookup(edge, self.opening(edge, instant))

@@ -58,13 +58,8 @@ fn add_windows<N: Network>(
     gate: &mut Gate<N>,
     rows: &[(u16, u32, u32, Result<(), u8>)],
 ) {
-    for (edge, from, until, expected) in rows {
-        let window = Window {
-            edge: *edge,
-            from: *from,
-            until: *until,
-        };
-        assert_eq!(rt; told(gate.add(window)), *expected);
+    for &(edge, from, until, expected) in rows {
+        assert_eq!(rt; told(gate.add(Window { edge, from, until })), expected);
     }
 }
 
@@ -74,15 +69,12 @@ fn add_notices<N: Network>(
     late: &mut Late<N>,
     rows: &[(u16, u32, Result<(), u8>)],
 ) {
-    for (edge, seconds, expected) in rows {
-        let notice = Notice {
-            edge: *edge,
-            seconds: *seconds,
-        };
-        assert_eq!(rt; told(late.add(notice)), *expected);
+    for &(edge, seconds, expected) in rows {
+        assert_eq!(rt; told(late.add(Notice { edge, seconds })), expected);
     }
 }
 
+// The number of the refusal, if there is one.
 fn told(res: Result<(), Refusal>) -> Result<(), u8> {
     res.map_err(|refusal| refusal.number())
 }
