@@ -56,12 +56,12 @@ impl Windows {
     }
 
     // The least instant, not before the one asked, at which no window shuts the edge.
-    // Waits from the end of one window to the end of another; each jump leaves fewer windows that end later.
     #[tactic(auto, using(crate::proofs::Waits::on, crate::proofs::Waits::over, crate::specs::Gated::least_open_is))]
     pub fn opening(&self, edge: u16, instant: u32) -> u32
         ensures answer { result ≡ least_open self.now.list.items edge instant }
         ensures law { LeastOpen self.now.list.items edge instant result }
     {
+        // From the end of one window to the end of another; each jump leaves fewer windows that end later.
         let mut open = instant;
         while let Some(window) = self.shutting(edge, open) {
             open = window.until;
