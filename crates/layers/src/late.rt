@@ -12,8 +12,7 @@ use refusals::Refusal;
 
 pub type Late<N> = Layer<N, Notices>;
 
-// `add` stands here and at the gate: one for all kinds would say its reasons by three members of the trait.
-
+// `add` stands at each kind: one for all would take the reasons, their order and what is held from members of the trait.
 impl<N: Network> Layer<N, Notices> {
     // Adds a notice; a refusal leaves the layer as it was.
     pub fn add(&mut self, notice: Notice) -> Result<(), Refusal>
