@@ -1,6 +1,6 @@
 -- Late notices: the notice of an edge, and what a network means under notices.
-use Rattle.std.specs.Prelude.{◌≡◌, ℕ, ◌+◌, ◌<◌, ◌≤◌, cond, List, [], ◌∷◌, length, Some, None, Option, ◌==◌, nat_le, slice_index_or}
-use Rattle.std.specs.List.{HoldsAt}
+use Rattle.std.specs.Prelude.{◌≡◌, ℕ, ◌+◌, ◌<◌, ◌≤◌, cond, List, length, Some, None, Option, option_map, ◌==◌, ◌≢◌, nat_le}
+use Rattle.std.specs.List.{HoldsAt, AllPairs, find}
 use Rattle.networks.specs.Networks.{Meaning, day_end}
 use Rattle.refusals.specs.declared.NoticeRefusal.{NoticeRefusal}
 use Rattle.refusals.specs.declared.NoticeRefusal.TheVariants.{TooManyNotices, NoticeEdge, NoticeRepeated, NoticeTooLong}
@@ -19,14 +19,13 @@ abbrev pub TheNotice : List Notice → ℕ → Option ℕ → Type 0
 TheNotice ns e None = Noticed ns e → ⊥
 TheNotice ns e (Some s) = (k : ℕ) × NoticeAt ns e k × HoldsAt (λ n. n.seconds ≡ s) ns k × ((j : ℕ) → NoticeAt ns e j → j ≡ k)
 
--- no two of the first n notices are of one edge
-abbrev pub Once : List Notice → ℕ → Type 0
-Once ns n = (i j : ℕ) (d : Notice) → (i < j) × (j < n) × ((slice_index_or ns i d).edge ≡ (slice_index_or ns j d).edge) → ⊥
+-- no two notices are of one edge
+abbrev pub Once : List Notice → Type 0
+Once ns = AllPairs (λ m n. m.edge ≢ n.edge) ns
 
 -- the answer that `TheNotice` speaks of, for notices of different edges
 abbrev pub seconds_of : List Notice → ℕ → Option ℕ
-seconds_of [] e = None
-seconds_of (n ∷ ns) e = cond (n.edge == e) (Some n.seconds) (seconds_of ns e)
+seconds_of ns e = option_map (λ n. n.seconds) (find (λ n. n.edge == e) ns)
 
 -- an arrival so many seconds later, if that is within the day; without a notice it stays
 abbrev pub later : Option ℕ → Option ℕ → Option ℕ

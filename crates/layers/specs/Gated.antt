@@ -5,7 +5,8 @@ use Rattle.std.proofs.lemmas.List.{get_or_default}
 use Rattle.std.proofs.lemmas.List.Sums.{sum_by-cons}
 use Rattle.std.proofs.lemmas.Bool.{cases_Bool, cases_lt, both_ways}
 use Rattle.std.proofs.lemmas.Bool.Decides.{nat_tests, Decides-and, Decides-by_or, Decides-eqb, Decides-ltb}
-use Rattle.std.specs.List.{AllByRecursion}
+use Rattle.std.proofs.lemmas.List.Folds.{list_any_none}
+use Rattle.std.specs.List.{All}
 use Rattle.networks.specs.Networks.{Meaning, Lawful, day_end}
 use Rattle.networks.proofs.Laws.{sooner}
 use Rattle.layers.specs.Gates.{Covers, Shut, LeastOpen, covers, shut, first_failing, least_open, gated, ending_after, Wait}
@@ -63,14 +64,13 @@ abbrev pub Ends : Window → Type 0
 Ends w = w.until ≤ day_end
 
 -- at the end of the day no window shuts
-past : (ws : List Window) (e s : ℕ) → AllByRecursion Ends ws → day_end ≤ s → shut ws e s ≡ false
-past [] e s h l = refl
-past (w ∷ ws) e s h l = let k = past ws e s h.1 l in let j = h.0 in grind (arith, nat_tests)
+past : (ws : List Window) (e s : ℕ) → All Ends ws → day_end ≤ s → shut ws e s ≡ false
+past ws e s h l = list_any_none (covers e s) ws (λ k d m. let j = h k d m in grind (arith, nat_tests))
 
-open_first : (ws : List Window) (e t : ℕ) → AllByRecursion Ends ws → First (shut ws e) t (least_open ws e t)
+open_first : (ws : List Window) (e t : ℕ) → All Ends ws → First (shut ws e) t (least_open ws e t)
 open_first ws e t h = failing_first (shut ws e) day_end t (λ s l. past ws e s h (omega arith))
 
-pub least_open_is : (ws : List Window) (e t : ℕ) → AllByRecursion Ends ws → LeastOpen ws e t (least_open ws e t)
+pub least_open_is : (ws : List Window) (e t : ℕ) → All Ends ws → LeastOpen ws e t (least_open ws e t)
 least_open_is ws e t h =
     let f = open_first ws e t h in
     record {
@@ -80,9 +80,12 @@ least_open_is ws e t h =
     }
 
 -- with no window every instant is open
-pub gated_none : (m : Meaning) → gated [] m ≡ m
+gated_none : (m : Meaning) → gated [] m ≡ m
 unfolding first_failing
 gated_none m = refl
+
+pub gated_unchanged : (ws : List Window) (m : Meaning) → ws ≡ [] → gated ws m ≡ m
+gated_unchanged ws m e = ap (λ (vs : List Window). gated vs m) e ∙ gated_none m
 
 -- fewer windows end after the end of a window than before it
 fewer_or_same : (ws : List Window) (t u : ℕ) → t ≤ u → ending_after u ws ≤ ending_after t ws
@@ -108,11 +111,11 @@ fewer (w ∷ ws) t (suc k) d h l =
     grind (arith, nat_tests)
 
 -- a wait ends at an instant at which no window shuts, and else goes on at the end of one that does
-pub wait_over : (ws : List Window) (e t : ℕ) → AllByRecursion Ends ws → shut ws e t ≡ false → Wait ws e t None
+pub wait_over : (ws : List Window) (e t : ℕ) → All Ends ws → shut ws e t ≡ false → Wait ws e t None
 wait_over ws e t h n =
     first_unique (shut ws e) t (least_open ws e t) t (open_first ws e t h) (omega arith, n, λ s a b. absurd (omega arith))
 
-pub wait_goes_on : (ws : List Window) (e t k : ℕ) (d : Window) → AllByRecursion Ends ws → k < length ws → covers e t (slice_index_or ws k d) ≡ true → Wait ws e t (Some (get_or ws k d).until)
+pub wait_goes_on : (ws : List Window) (e t k : ℕ) (d : Window) → All Ends ws → k < length ws → covers e t (slice_index_or ws k d) ≡ true → Wait ws e t (Some (get_or ws k d).until)
 wait_goes_on ws e t k d h l y =
     let w = get_or ws k d in
     let c : Covers e t (slice_index_or ws k d) = (decides_covers e t w).0 y in
@@ -125,7 +128,7 @@ wait_goes_on ws e t k d h l y =
           (open_first ws e t h),
     )
 
-pub gated_lawful : (ws : List Window) (m : Meaning) → AllByRecursion Ends ws → Lawful m → Lawful (gated ws m)
+pub gated_lawful : (ws : List Window) (m : Meaning) → All Ends ws → Lawful m → Lawful (gated ws m)
 gated_lawful ws m h l = record {
   few = l.few;
   stops = l.stops;

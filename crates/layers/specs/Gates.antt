@@ -1,6 +1,6 @@
 -- Gate hours: when an edge is shut, the least instant at which it is not, and what a network means behind windows.
-use Rattle.std.specs.Prelude.{◌≡◌, ℕ, zero, suc, ◌+◌, ◌<◌, ◌≤◌, Bool, false, cond, ◌&&◌, ◌||◌, ltb, ◌⊎◌, List, [], ◌∷◌, length, Some, None, count_by, Option, ◌==◌, nat_le, nat_lt}
-use Rattle.std.specs.List.{HoldsAt}
+use Rattle.std.specs.Prelude.{◌≡◌, ℕ, zero, suc, ◌+◌, ◌<◌, ◌≤◌, Bool, cond, ◌&&◌, ltb, ◌⊎◌, List, length, Some, None, count_by, Option, ◌==◌, nat_le, nat_lt}
+use Rattle.std.specs.List.{HoldsAt, list_any}
 use Rattle.networks.specs.Networks.{Meaning, day_end}
 use Rattle.refusals.specs.declared.WindowRefusal.{WindowRefusal}
 use Rattle.refusals.specs.declared.WindowRefusal.TheVariants.{TooManyWindows, WindowEdge, WindowSpan}
@@ -25,8 +25,7 @@ abbrev pub covers : ℕ → ℕ → Window → Bool
 covers e t w = w.edge == e && (nat_le w.from t && nat_lt t w.until)
 
 abbrev pub shut : List Window → ℕ → ℕ → Bool
-shut [] e t = false
-shut (w ∷ ws) e t = covers e t w || shut ws e t
+shut ws e t = list_any (covers e t) ws
 
 -- the first instant from t on that fails a test, if it is among the next k
 unfoldable pub first_failing : (ℕ → Bool) → ℕ → ℕ → ℕ

@@ -3,5 +3,6 @@
 
 pub mod gate;
 pub mod late;
+pub mod layer;
 mod notices;
 mod windows;

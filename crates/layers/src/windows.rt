@@ -1,15 +1,18 @@
 // The windows of a gate: up to sixteen, each of them a time during which an edge is shut.
-ghost use Rattle.std.specs.Prelude.{◌≡◌, ◌<◌, ◌≤◌, [], ◌∷◌, ◌++◌, length, take, MatchResult};
-ghost use Rattle.std.specs.List.{AllWithin, AllByRecursion};
-ghost use Rattle.refusals.specs.Verdicts.{Verdict};
+ghost use Rattle.std.specs.Prelude.{◌≡◌, ◌∷◌, ◌++◌, [], All, MatchResult, option_copied, refl};
+ghost use Rattle.std.specs.List.{find};
+ghost use Rattle.refusals.specs.Verdicts.{Judged};
 ghost use Rattle.refusals.specs.declared.Refusal.TheVariants.{OfWindow};
-ghost use Rattle.layers.specs.Gates.{covers, least_open, LeastOpen, Wait, UnfitWindow};
+ghost use Rattle.layers.specs.Gates.{covers, gated, least_open, LeastOpen, UnfitWindow};
+ghost use Rattle.layers.specs.Gated.{Ends, gated_lawful, gated_unchanged};
 
-use networks::DAY_END;
-use refusals::{Refusal, WindowRefusal};
+use crate::layer::Rule;
+use arrayvec::ArrayVec;
+use networks::{DAY_END, Network};
+use refusals::WindowRefusal;
 
 // The edge is shut from `from` on, and open again at `until`.
-#[derive(Clone, Copy)]
+#[derive(Clone, Copy, Debug, Default, PartialEq, Eq)]
 pub struct Window {
     pub edge: u16,
     pub from: u32,
@@ -18,73 +21,75 @@ pub struct Window {
 
 #[derive(Drop)]
 pub struct Windows {
-    list: [Window; 16],
-    held: usize,
-    ghost whole: { length list ≡ 16 },
-    ghost few: { held ≤ 16 },
-    ghost ending: { AllWithin (λ w. w.until ≤ 172800) list 0 held },
+    list: ArrayVec<Window, 16>,
+    ghost ending: { All Ends list.items },
+}
+
+// By hand, since no derive proves a ghost field.
+impl Default for Windows {
+    ghost is_default = { λ held. held.list.items ≡ [] };
+
+    fn default() -> Windows {
+        Windows {
+            list: ArrayVec::new(),
+        }
+    }
 }
 
 impl Windows {
-    pub fn new() -> Windows
-        ensures answer { take result.held result.list ≡ [] }
-    {
-        Windows {
-            list: [Window {
-                edge: 0,
-                from: 0,
-                until: 0,
-            }; 16],
-            held: 0,
-        }
-    }
-
     // Adds a window for one of the edges below `edges`.
-    pub fn add(&mut self, edges: u16, window: Window) -> Result<(), Refusal>
-        ensures answer { Verdict OfWindow (30 ∷ 31 ∷ 32 ∷ []) (UnfitWindow edges (take self.old.held self.old.list) window) result }
-        ensures after { MatchResult result (λ _. take self.new.held self.new.list ≡ take self.old.held self.old.list ++ (window ∷ [])) (λ _. self.new ≡ self.old) }
+    pub fn add(&mut self, edges: u16, window: Window) -> Result<(), WindowRefusal>
+        ensures answer { Judged OfWindow (30 ∷ 31 ∷ 32 ∷ []) (UnfitWindow edges self.old.list.items window) result }
+        ensures after { MatchResult result (λ _. self.new.list.items ≡ self.old.list.items ++ window ∷ []) (λ _. self.new ≡ self.old) }
     {
-        self.allow(edges, window)?;
-        self.push(window);
-        Ok(())
-    }
-
-    // Refuses a window that `add` refuses.
-    fn allow(&self, edges: u16, window: Window) -> Result<(), Refusal>
-        ensures answer { Verdict OfWindow (30 ∷ 31 ∷ 32 ∷ []) (UnfitWindow edges (take self.now.held self.now.list) window) result }
-    {
-        if self.held == 16 {
-            return Err(Refusal::OfWindow(WindowRefusal::TooManyWindows));
+        if self.list.is_full() {
+            return Err(WindowRefusal::TooManyWindows);
         }
         if window.edge >= edges {
-            return Err(Refusal::OfWindow(WindowRefusal::WindowEdge));
+            return Err(WindowRefusal::WindowEdge);
         }
         if window.from >= window.until || window.until > DAY_END {
-            return Err(Refusal::OfWindow(WindowRefusal::WindowSpan));
+            return Err(WindowRefusal::WindowSpan);
         }
+        self.list.push(window);
         Ok(())
     }
 
     // The least instant, not before the one asked, at which no window shuts the edge.
+    #[tactic(auto, using(crate::proofs::Waits::on, crate::proofs::Waits::over, crate::specs::Gated::least_open_is))]
     pub fn opening(&self, edge: u16, instant: u32) -> u32
-        ensures answer { result ≡ least_open (take self.now.held self.now.list) edge instant }
-        ensures law { LeastOpen (take self.now.held self.now.list) edge instant result }
+        ensures answer { result ≡ least_open self.now.list.items edge instant }
+        ensures law { LeastOpen self.now.list.items edge instant result }
     {
-        opening_in(self.held_windows(), edge, instant)
+        // From the end of one window to the end of another; each jump leaves fewer windows that end later.
+        let mut open = instant;
+        while let Some(window) = self.shutting(edge, open) {
+            open = window.until;
+        }
+        open
     }
 
-    fn held_windows(&self) -> &[Window]
-        ensures { result.now ≡ take self.now.held self.now.list }
+    // The first window that shuts the edge at the instant, if there is one.
+    fn shutting(&self, edge: u16, instant: u32) -> Option<&Window>
+        ensures { option_copied result ≡ find (covers edge instant) self.now.list.items }
     {
-        &self.list[0..self.held]
+        self.list.iter().find(|window| window.covers(edge, instant))
     }
+}
 
-    fn push(&mut self, window: Window)
-        requires { (self.old.held < 16) × (window.until ≤ 172800) }
-        ensures after { take self.new.held self.new.list ≡ take self.old.held self.old.list ++ (window ∷ []) }
-    {
-        self.list[self.held] = window;
-        self.held += 1;
+impl Rule for Windows {
+    ghost over = { λ r. gated r.list.items };
+
+    ghost same_count = { λ _ _. refl };
+
+    ghost same_ends = { λ _ _. refl };
+
+    ghost lawful = { λ r m. gated_lawful r.list.items m r.ending };
+
+    ghost unchanged = { λ r m. gated_unchanged r.list.items m };
+
+    fn lookup<N: Network>(&self, below: &N, edge: u16, instant: u32) -> Option<u32> {
+        below.lookup(edge, self.opening(edge, instant))
     }
 }
 
@@ -95,29 +100,4 @@ impl Window {
     {
         self.edge == edge && self.from <= instant && instant < self.until
     }
-}
-
-// Waits from the end of one window to the end of another; each jump leaves fewer windows that end later.
-fn opening_in(windows: &[Window], edge: u16, instant: u32) -> u32
-    requires { AllByRecursion (λ w. w.until ≤ 172800) windows.now }
-    ensures { result ≡ least_open windows.now edge instant }
-{
-    let mut open = instant;
-    while let Some(until) = wait(windows, edge, open) {
-        open = until;
-    }
-    open
-}
-
-// The end of a window that shuts the edge at the instant, if there is one.
-fn wait(windows: &[Window], edge: u16, instant: u32) -> Option<u32>
-    requires { AllByRecursion (λ w. w.until ≤ 172800) windows.now }
-    ensures { Wait windows.now edge instant result }
-{
-    for window in windows {
-        if window.covers(edge, instant) {
-            return Some(window.until);
-        }
-    }
-    None
 }

@@ -20,14 +20,6 @@ fn ride(from: u8, to: u8, departure: u32, arrival: u32, trip: u16) -> Connection
     }
 }
 
-// The number of the refusal, or 0.
-fn number(res: Result<(), Refusal>) -> u8 {
-    match res {
-        Ok(()) => 0,
-        Err(refusal) => refusal.number(),
-    }
-}
-
 fn station(rt: &impl Abort, heap: Global) -> Result<DayTable, Fail> {
     let mut table = DayTable::new(heap)?;
     let connections = [
@@ -42,50 +34,49 @@ fn station(rt: &impl Abort, heap: Global) -> Result<DayTable, Fail> {
         to: 2,
         duration: 240,
     };
-    assert_eq!(rt; number(table.fill(&connections, &[footpath])), 0);
+    assert_eq!(rt; table.fill(&connections, &[footpath]), Ok(()));
     Ok(table)
 }
 
 // Forty footpaths from stop 0.
 fn forty_footpaths(rt: &impl Abort, heap: Global) -> Result<DayTable, Fail> {
     let mut table = DayTable::new(heap)?;
-    let mut footpaths = [Footpath {
-        from: 0,
-        to: 0,
-        duration: 60,
-    }; 40];
-    for i in 0..40 {
-        footpaths[i].to = i as u8 + 1;
-    }
-    assert_eq!(rt; number(table.fill(&[], &footpaths)), 0);
+    let footpaths: Vec<Footpath> = (1..41)
+        .map(|to| Footpath {
+            from: 0,
+            to,
+            duration: 60,
+        })
+        .collect(heap)?;
+    assert_eq!(rt; table.fill(&[], &footpaths), Ok(()));
     Ok(table)
 }
 
-// Adds windows, each with the number of the refusal that it meets, or 0.
-fn add_windows<N: Network>(rt: &impl Abort, gate: &mut Gate<N>, rows: &[(u16, u32, u32, u8)]) {
-    for (edge, from, until, expected) in rows {
-        assert_eq!(rt;
-            number(gate.add(Window {
-                edge: *edge,
-                from: *from,
-                until: *until,
-            })),
-            *expected
-        );
+// Adds windows, each with the number of the refusal that it meets, if it meets one.
+fn add_windows<N: Network>(
+    rt: &impl Abort,
+    gate: &mut Gate<N>,
+    rows: &[(u16, u32, u32, Result<(), u8>)],
+) {
+    for &(edge, from, until, expected) in rows {
+        assert_eq!(rt; told(gate.add(Window { edge, from, until })), expected);
     }
 }
 
-// Adds notices, each with the number of the refusal that it meets, or 0.
-fn add_notices<N: Network>(rt: &impl Abort, late: &mut Late<N>, rows: &[(u16, u32, u8)]) {
-    for (edge, seconds, expected) in rows {
-        assert_eq!(rt;
-            number(late.add(Notice {
-                edge: *edge,
-                seconds: *seconds,
-            })),
-            *expected
-        );
+// Adds notices, each with the number of the refusal that it meets, if it meets one.
+fn add_notices<N: Network>(
+    rt: &impl Abort,
+    late: &mut Late<N>,
+    rows: &[(u16, u32, Result<(), u8>)],
+) {
+    for &(edge, seconds, expected) in rows {
+        assert_eq!(rt; told(late.add(Notice { edge, seconds })), expected);
     }
+}
+
+// The number of the refusal, if there is one.
+fn told(res: Result<(), Refusal>) -> Result<(), u8> {
+    res.map_err(|refusal| refusal.number())
 }
 
 fn gated<N: Network + Drop>(
@@ -96,46 +87,43 @@ fn gated<N: Network + Drop>(
     until: u32,
 ) -> Gate<N> {
     let mut gate = Gate::new(below);
-    add_windows(rt, &mut gate, &[(edge, from, until, 0)]);
+    add_windows(rt, &mut gate, &[(edge, from, until, Ok(()))]);
     gate
 }
 
 fn delayed<N: Network + Drop>(rt: &impl Abort, below: N, edge: u16, seconds: u32) -> Late<N> {
     let mut late = Late::new(below);
-    add_notices(rt, &mut late, &[(edge, seconds, 0)]);
+    add_notices(rt, &mut late, &[(edge, seconds, Ok(()))]);
     late
 }
 
 // The arrival of the walk along edges 0, 5 and 3 from 28800, or the step that cannot be taken.
-fn walked<N: Network>(network: &N) -> (Option<u32>, Option<usize>) {
-    match walk(network, 28800, &[0, 5, 3]) {
-        Ok(arrival) => (Some(arrival), None),
-        Err(blocked) => (None, Some(blocked.step)),
-    }
+fn walked<N: Network>(network: &N) -> Result<u32, usize> {
+    walk(network, 28800, &[0, 5, 3]).map_err(|blocked| blocked.step)
 }
 
 #[test]
 fn a_notice_on_the_first_connection(rt: HostRuntime) -> Result<(), Fail> {
     let late = delayed(&rt, station(&rt, rt.alloc())?, 0, 120);
-    assert_eq!(rt; walked(&late), (Some(30300), None));
+    assert_eq!(rt; walked(&late), Ok(30300));
     let later = delayed(&rt, late.into_below(), 0, 121);
-    assert_eq!(rt; walked(&later), (None, Some(2)));
+    assert_eq!(rt; walked(&later), Err(2));
     Ok(())
 }
 
 #[test]
 fn a_window_on_the_footpath(rt: HostRuntime) -> Result<(), Fail> {
     let gate = gated(&rt, station(&rt, rt.alloc())?, 5, 29400, 29520);
-    assert_eq!(rt; walked(&gate), (Some(30300), None));
+    assert_eq!(rt; walked(&gate), Ok(30300));
     let longer = gated(&rt, gate.into_below(), 5, 29400, 29521);
-    assert_eq!(rt; walked(&longer), (None, Some(2)));
+    assert_eq!(rt; walked(&longer), Err(2));
     Ok(())
 }
 
 #[test]
 fn empty_layers(rt: HostRuntime) -> Result<(), Fail> {
     let pile = Late::new(Gate::new(station(&rt, rt.alloc())?));
-    assert_eq!(rt; walked(&pile), (Some(30300), None));
+    assert_eq!(rt; walked(&pile), Ok(30300));
     assert_eq!(rt;
         (pile.count(), pile.ends(5), pile.ends(6)),
         (6, Some((1, 2)), None)
@@ -149,13 +137,13 @@ fn a_pile_in_both_orders(rt: HostRuntime) -> Result<(), Fail> {
     let inner = gated(&rt, station(&rt, rt.alloc())?, 5, 29460, 29520);
     let late = delayed(&rt, gated(&rt, inner, 5, 29400, 29460), 5, 60);
     assert_eq!(rt; late.lookup(5, 29400), Some(29820));
-    assert_eq!(rt; walked(&late), (None, Some(2)));
+    assert_eq!(rt; walked(&late), Err(2));
 
     let table = late.into_below().into_below().into_below();
     let inner = gated(&rt, delayed(&rt, table, 5, 60), 5, 29400, 29460);
     let gate = gated(&rt, inner, 5, 29460, 29520);
     assert_eq!(rt; gate.lookup(5, 29400), Some(29760));
-    assert_eq!(rt; walked(&gate), (Some(30300), None));
+    assert_eq!(rt; walked(&gate), Ok(30300));
     Ok(())
 }
 
@@ -167,11 +155,11 @@ fn the_least_open_instant(rt: HostRuntime) -> Result<(), Fail> {
         &rt,
         &mut gate,
         &[
-            (5, 250, 400, 0),
-            (5, 100, 200, 0),
-            (5, 260, 270, 0),
-            (5, 200, 300, 0),
-            (5, 100, 200, 0),
+            (5, 250, 400, Ok(())),
+            (5, 100, 200, Ok(())),
+            (5, 260, 270, Ok(())),
+            (5, 200, 300, Ok(())),
+            (5, 100, 200, Ok(())),
         ],
     );
     assert_eq!(rt;
@@ -206,35 +194,39 @@ fn refusals(rt: HostRuntime) -> Result<(), Fail> {
         &rt,
         &mut late,
         &[
-            (40, 0, 34),
-            (40, 86_401, 34),
-            (39, 86_401, 36),
-            (39, 86_400, 0),
-            (39, 0, 35),
-            (39, 86_401, 35),
+            (40, 0, Err(34)),
+            (40, 86_401, Err(34)),
+            (39, 86_401, Err(36)),
+            (39, 86_400, Ok(())),
+            (39, 0, Err(35)),
+            (39, 86_401, Err(35)),
         ],
     );
     for edge in 0..31 {
-        add_notices(&rt, &mut late, &[(edge, 60, 0)]);
+        add_notices(&rt, &mut late, &[(edge, 60, Ok(()))]);
     }
-    add_notices(&rt, &mut late, &[(31, 60, 33), (40, 86_401, 33)]);
+    add_notices(&rt, &mut late, &[(31, 60, Err(33)), (40, 86_401, Err(33))]);
 
     let mut gate = late.into_below();
     add_windows(
         &rt,
         &mut gate,
         &[
-            (40, 0, 60, 31),
-            (40, 60, 60, 31),
-            (39, 60, 60, 32),
-            (39, 0, 172_801, 32),
-            (39, 59, 60, 0),
-            (39, 0, 172_800, 0),
+            (40, 0, 60, Err(31)),
+            (40, 60, 60, Err(31)),
+            (39, 60, 60, Err(32)),
+            (39, 0, 172_801, Err(32)),
+            (39, 59, 60, Ok(())),
+            (39, 0, 172_800, Ok(())),
         ],
     );
     for edge in 0..14 {
-        add_windows(&rt, &mut gate, &[(edge, 0, 60, 0)]);
+        add_windows(&rt, &mut gate, &[(edge, 0, 60, Ok(()))]);
     }
-    add_windows(&rt, &mut gate, &[(14, 0, 60, 30), (40, 60, 60, 30)]);
+    add_windows(
+        &rt,
+        &mut gate,
+        &[(14, 0, 60, Err(30)), (40, 60, 60, Err(30))],
+    );
     Ok(())
 }
