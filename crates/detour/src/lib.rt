@@ -95,6 +95,7 @@ fn earliest<N: Network>(
         destination,
         latest,
     } = course;
+    // A stop that is not reached has the greatest number: each arrival compares as earlier, with no case of its own.
     let mut arrivals = [u32::MAX; 256];
     let mut settled = StopSet::empty();
     let onward = Around {
@@ -201,6 +202,7 @@ fn trace<N: Network>(
         latest,
     } = course;
     let mut barred = barred;
+    // The edges stand in the caller's buffer, as a detour is asked for, so their count is kept beside them.
     let mut count = 0;
     while stop != destination {
         shut.insert(stop);

@@ -52,7 +52,7 @@ pub fn next_is_least()
     branches()
 }
 
-// The proofs of the theorems stand with these.
+// The proofs of the theorems stand with these, one for each, so that in the body of a theorem's function another can be put, and is refused.
 fn rank()
     ensures { RankIsTotal }
 {}

@@ -4,37 +4,16 @@ use layers::gate::{Gate, Window};
 use layers::late::{Late, Notice};
 use networks::Network;
 use refusals::Refusal;
+use station::{CONNECTIONS, FOOTPATHS};
 use std::alloc::Global;
 use std::process::Abort;
 use std::test::Fail;
-use timetable::records::{Connection, Footpath};
+use timetable::records::Footpath;
 use timetable::table::DayTable;
 
-fn ride(from: u8, to: u8, departure: u32, arrival: u32, trip: u16) -> Connection {
-    Connection {
-        from,
-        to,
-        departure,
-        arrival,
-        trip,
-    }
-}
-
-fn station(rt: &impl Abort, heap: Global) -> Result<DayTable, Fail> {
+fn station_table(rt: &impl Abort, heap: Global) -> Result<DayTable, Fail> {
     let mut table = DayTable::new(heap)?;
-    let connections = [
-        ride(0, 1, 28800, 29400, 0),
-        ride(0, 2, 28860, 29700, 1),
-        ride(1, 3, 29460, 30600, 0),
-        ride(2, 3, 29760, 30300, 1),
-        ride(1, 3, 30000, 30600, 2),
-    ];
-    let footpath = Footpath {
-        from: 1,
-        to: 2,
-        duration: 240,
-    };
-    assert_eq!(rt; table.fill(&connections, &[footpath]), Ok(()));
+    assert_eq!(rt; table.fill(&CONNECTIONS, &FOOTPATHS), Ok(()));
     Ok(table)
 }
 
@@ -104,7 +83,7 @@ fn walked<N: Network>(network: &N) -> Result<u32, usize> {
 
 #[test]
 fn a_notice_on_the_first_connection(rt: HostRuntime) -> Result<(), Fail> {
-    let late = delayed(&rt, station(&rt, rt.alloc())?, 0, 120);
+    let late = delayed(&rt, station_table(&rt, rt.alloc())?, 0, 120);
     assert_eq!(rt; walked(&late), Ok(30300));
     let later = delayed(&rt, late.into_below(), 0, 121);
     assert_eq!(rt; walked(&later), Err(2));
@@ -113,7 +92,7 @@ fn a_notice_on_the_first_connection(rt: HostRuntime) -> Result<(), Fail> {
 
 #[test]
 fn a_window_on_the_footpath(rt: HostRuntime) -> Result<(), Fail> {
-    let gate = gated(&rt, station(&rt, rt.alloc())?, 5, 29400, 29520);
+    let gate = gated(&rt, station_table(&rt, rt.alloc())?, 5, 29400, 29520);
     assert_eq!(rt; walked(&gate), Ok(30300));
     let longer = gated(&rt, gate.into_below(), 5, 29400, 29521);
     assert_eq!(rt; walked(&longer), Err(2));
@@ -122,7 +101,7 @@ fn a_window_on_the_footpath(rt: HostRuntime) -> Result<(), Fail> {
 
 #[test]
 fn empty_layers(rt: HostRuntime) -> Result<(), Fail> {
-    let pile = Late::new(Gate::new(station(&rt, rt.alloc())?));
+    let pile = Late::new(Gate::new(station_table(&rt, rt.alloc())?));
     assert_eq!(rt; walked(&pile), Ok(30300));
     assert_eq!(rt;
         (pile.count(), pile.ends(5), pile.ends(6)),
@@ -134,7 +113,7 @@ fn empty_layers(rt: HostRuntime) -> Result<(), Fail> {
 // Two gates and a late layer; which window is met first depends on the order.
 #[test]
 fn a_pile_in_both_orders(rt: HostRuntime) -> Result<(), Fail> {
-    let inner = gated(&rt, station(&rt, rt.alloc())?, 5, 29460, 29520);
+    let inner = gated(&rt, station_table(&rt, rt.alloc())?, 5, 29460, 29520);
     let late = delayed(&rt, gated(&rt, inner, 5, 29400, 29460), 5, 60);
     assert_eq!(rt; late.lookup(5, 29400), Some(29820));
     assert_eq!(rt; walked(&late), Err(2));
@@ -150,7 +129,7 @@ fn a_pile_in_both_orders(rt: HostRuntime) -> Result<(), Fail> {
 // Windows that overlap, touch, lie inside one another and repeat.
 #[test]
 fn the_least_open_instant(rt: HostRuntime) -> Result<(), Fail> {
-    let mut gate = Gate::new(station(&rt, rt.alloc())?);
+    let mut gate = Gate::new(station_table(&rt, rt.alloc())?);
     add_windows(
         &rt,
         &mut gate,
@@ -177,7 +156,7 @@ fn the_least_open_instant(rt: HostRuntime) -> Result<(), Fail> {
 
 #[test]
 fn the_end_of_the_day(rt: HostRuntime) -> Result<(), Fail> {
-    let late = delayed(&rt, station(&rt, rt.alloc())?, 5, 60);
+    let late = delayed(&rt, station_table(&rt, rt.alloc())?, 5, 60);
     assert_eq!(rt;
         (late.lookup(5, 172_500), late.lookup(5, 172_501)),
         (Some(172_800), None)

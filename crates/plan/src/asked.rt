@@ -16,38 +16,31 @@ pub struct Asked {
     pub notices: Vec<Notice>,
 }
 
-fn number<T: FromStr>(word: Option<&str>) -> Result<T, Failure>
+fn number<T: FromStr>(word: &str) -> Result<T, Failure>
 where
     T::Err: Drop,
 {
-    let Some(word) = word else {
-        return Err(Failure::NotANumber);
-    };
-    match word.parse::<T>() {
-        Ok(number) => Ok(number),
-        Err(_) => Err(Failure::NotANumber),
-    }
+    word.parse::<T>().map_err(|_| Failure::NotANumber)
 }
 
 fn window(word: &str) -> Result<Window, Failure> {
     let mut parts = word.split(',');
-    let edge = number(parts.next())?;
-    let from = number(parts.next())?;
-    let until = number(parts.next())?;
-    match parts.next() {
-        None => Ok(Window { edge, from, until }),
-        Some(_) => Err(Failure::NotANumber),
+    match (parts.next(), parts.next(), parts.next(), parts.next()) {
+        (Some(edge), Some(from), Some(until), None) => Ok(Window {
+            edge: number(edge)?,
+            from: number(from)?,
+            until: number(until)?,
+        }),
+        _ => Err(Failure::NotANumber),
     }
 }
 
 fn notice(word: &str) -> Result<Notice, Failure> {
-    let mut parts = word.split(',');
-    let edge = number(parts.next())?;
-    let seconds = number(parts.next())?;
-    match parts.next() {
-        None => Ok(Notice { edge, seconds }),
-        Some(_) => Err(Failure::NotANumber),
-    }
+    let (edge, seconds) = word.split_once(',').ok_or(Failure::NotANumber)?;
+    Ok(Notice {
+        edge: number(edge)?,
+        seconds: number(seconds)?,
+    })
 }
 
 impl Asked {
@@ -64,11 +57,11 @@ impl Asked {
     pub fn read(rt: &HostRuntime) -> Result<Asked, Failure> {
         let mut args = env::args(rt)?;
         let _program = args.next();
-        let file = word(args.next())?;
-        let origin = number(Some(&word(args.next())?))?;
-        let destination = number(Some(&word(args.next())?))?;
-        let start = number(Some(&word(args.next())?))?;
-        let latest = number(Some(&word(args.next())?))?;
+        let file = args.next().ok_or(Failure::Usage)?;
+        let origin = number(&args.next().ok_or(Failure::Usage)?)?;
+        let destination = number(&args.next().ok_or(Failure::Usage)?)?;
+        let start = number(&args.next().ok_or(Failure::Usage)?)?;
+        let latest = number(&args.next().ok_or(Failure::Usage)?)?;
         let mut asked = Asked {
             file,
             origin,
@@ -78,23 +71,10 @@ impl Asked {
             windows: Vec::new(rt.alloc()),
             notices: Vec::new(rt.alloc()),
         };
-        let mut option = None;
-        for word in args {
-            match option.take() {
-                None => option = Some(word),
-                Some(name) => asked.add(&name, &word)?,
-            }
-        }
-        if option.is_some() {
-            return Err(Failure::Usage);
+        while let Some(option) = args.next() {
+            let value = args.next().ok_or(Failure::Usage)?;
+            asked.add(&option, &value)?;
         }
         Ok(asked)
-    }
-}
-
-fn word(word: Option<String>) -> Result<String, Failure> {
-    match word {
-        Some(word) => Ok(word),
-        None => Err(Failure::Usage),
     }
 }

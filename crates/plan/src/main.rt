@@ -4,7 +4,6 @@
 mod asked;
 mod day;
 mod failure;
-mod reasons;
 mod shown;
 
 use asked::Asked;
@@ -44,7 +43,7 @@ fn list<N: Network + Drop>(
     let network = run(network, question, &[Call::Next; 16], &mut answers).into_network();
     let first = &answers[0];
     if let Answer::Refused(refusal) = first {
-        return Err(Failure::Refused(*refusal));
+        return Err((*refusal).into());
     }
     for (i, answer) in answers.iter().enumerate() {
         if let Answer::Gave(journey) = answer {

@@ -210,6 +210,7 @@ impl Refusal {
     }
 }
 
+// Each layer has tables of its own for number and place: no two of them share a row, so none is written for all.
 impl FileRefusal {
     fn number(&self) -> u8
         ensures { result ≡ (told (OfFile self.now)).number }
