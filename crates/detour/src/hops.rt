@@ -16,6 +16,7 @@ pub struct Around<'a> {
 }
 
 // Tries an edge from a stop at an instant: where and when it arrives, unless it is barred or reaches the origin or a shut stop.
+#[inline(always)]
 pub fn try_edge<N: Network>(
     network: &N,
     edge: u16,
