@@ -1,7 +1,7 @@
 // The records of a timetable: connections, footpaths, and lines run at intervals.
 
 // A train or bus from one stop to the next. Instants are seconds after the midnight that begins the service day.
-#[derive(Clone, Copy)]
+#[derive(Clone, Copy, Debug, Default, PartialEq, Eq)]
 pub struct Connection {
     pub from: u8,
     pub to: u8,
@@ -11,7 +11,7 @@ pub struct Connection {
 }
 
 // A way on foot, open at all times; its duration is in seconds.
-#[derive(Clone, Copy)]
+#[derive(Clone, Copy, Debug, Default, PartialEq, Eq)]
 pub struct Footpath {
     pub from: u8,
     pub to: u8,
@@ -19,7 +19,7 @@ pub struct Footpath {
 }
 
 // A service that departs at its first instant and then at every interval, up to its last; a ride takes `ride` seconds.
-#[derive(Clone, Copy)]
+#[derive(Clone, Copy, Debug, Default, PartialEq, Eq)]
 pub struct Line {
     pub from: u8,
     pub to: u8,
