@@ -1,11 +1,9 @@
 // Reading a day file record by record.
-ghost use Rattle.std.specs.Prelude.{◌≡◌, ◌+◌, ◌≤◌, [], ◌∷◌, length, IfOk, MatchOption, ◌≢◌};
+ghost use Rattle.std.specs.Prelude.{◌≡◌};
 ghost use Rattle.refusals.specs.Verdicts.{Verdict};
 ghost use Rattle.refusals.specs.declared.Refusal.TheVariants.{OfFile};
-ghost use Rattle.dayformat.specs.declared.Kind.{Kind};
-ghost use Rattle.dayformat.specs.Layout.{layout, Mark};
-ghost use Rattle.dayformat.specs.Faults.{order, Here, Next, Finds};
-ghost use Rattle.dayreader.specs.Reads.{Front, Reads, kind_of};
+ghost use Rattle.dayformat.specs.Faults.{order, Here, Finds};
+ghost use Rattle.dayreader.specs.Reads.{Front, Reads, kind_of, part};
 
 use crate::record::{Reader, Record};
 use dayformat::Kind;
@@ -13,15 +11,15 @@ use refusals::{FileRefusal, Refusal};
 
 impl<'a> Record<'a> {
     // The record of a kind with these bytes.
-    fn of(kind: Kind, part: &'a [u8]) -> Record<'a>
+    fn of(kind: Kind, bytes: &'a [u8]) -> Record<'a>
         ensures kind { kind_of result ≡ kind }
-        ensures bytes { part result ≡ part.now }
+        ensures bytes { part result ≡ bytes.now }
     {
         match kind {
-            Kind::Connection => Record::Connection(part),
-            Kind::Footpath => Record::Footpath(part),
-            Kind::Line => Record::Line(part),
-            Kind::End => Record::End(part),
+            Kind::Connection => Record::Connection(bytes),
+            Kind::Footpath => Record::Footpath(bytes),
+            Kind::Line => Record::Line(bytes),
+            Kind::End => Record::End(bytes),
         }
     }
 
@@ -72,7 +70,8 @@ impl<'a> Reader<'a> {
         if left < 2 {
             return Err(FileRefusal::EndsEarly(self.at));
         }
-        let Ok(kind) = Kind::try_from([self.file[self.at], self.file[self.at + 1]]) else {
+        let mark = [self.file[self.at], self.file[self.at + 1]];
+        let Ok(kind) = Kind::try_from(mark) else {
             return Err(FileRefusal::UnknownMark(self.at));
         };
         if left < kind.size() {
