@@ -1,7 +1,7 @@
 -- Records of one kind read from a file, and written into a buffer, one after another.
 use Rattle.std.proofs.Common.{◌≡◌, ℕ, ◌+◌, ◌-◌, ◌*◌, ◌<◌, ◌≤◌, List, [], ◌++◌, length, take, drop, set, replicate, sym, ap, ◌∙◌, subst, mul-le-mul_left, mul-one, mul-add, arith, take-add}
 use Rattle.std.specs.List.{flat_map}
-use Rattle.std.proofs.lemmas.List.{drop-set-lt, drop-drop, length-drop, take_more_set, flat_map_more, length-take-le, take-take}
+use Rattle.std.proofs.lemmas.List.{drop-drop, length-drop, take_more_set, flat_map_more, length-take-le, take-take}
 use Rattle.dayformat.specs.declared.Kind.{Kind}
 use Rattle.dayformat.specs.Layout.{layout, size, Mark}
 use Rattle.dayformat.specs.Faults.{Stand}
@@ -33,6 +33,3 @@ module _ {X : Type 0} (f : X → List ℕ) (w : ℕ) where
       ap (flat_map f) (take_more_set list i x h) ∙ sym (flat_map_more f [] (take i list) x) ∙ ap (λ (z : List ℕ). z ++ f x) r
       ∙ ap (λ (z : List ℕ). take (w * i) (drop from file) ++ z) (b ∙ (λ j. take (q j) (d j)))
       ∙ sym (take-add (w * i) w (drop from file)) ∙ ap (λ (z : ℕ). take z (drop from file)) (wider w i)
-
-pub kept_more : {X : Type 0} (list was : List X) (i : ℕ) (x : X) → drop i list ≡ drop i was → drop (i + 1) (set list i x) ≡ drop (i + 1) was
-kept_more list was i x e = drop-set-lt (i + 1) list i x (omega arith) ∙ sym (drop-drop 1 i list) ∙ ap (drop 1) e ∙ drop-drop 1 i was

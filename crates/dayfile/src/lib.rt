@@ -1,7 +1,6 @@
 // The day file: unpacking it into lists of records, and packing lists into it.
 #![tactic(auto)]
 
-mod numbers;
 pub mod reading;
 mod stored;
 pub mod writing;
