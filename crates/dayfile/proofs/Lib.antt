@@ -1,4 +1,4 @@
 mod Bytes
-mod Lists
+mod Runs
 mod Taking
 mod Puts

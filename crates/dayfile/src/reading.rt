@@ -3,16 +3,17 @@ ghost use Rattle.std.specs.Prelude.{◌≡◌, ◌+◌, ◌*◌, ◌≤◌, leng
 ghost use Rattle.std.specs.List.{flat_map};
 ghost use Rattle.dayformat.specs.Layout.{size};
 ghost use Rattle.dayformat.specs.Faults.{order, Stand, Fault};
-ghost use Rattle.dayformat.specs.Whole.{lengths, Fits, Whole};
+ghost use Rattle.dayformat.specs.Whole.{Fits, Whole};
 ghost use Rattle.refusals.specs.Verdicts.{Verdict};
 ghost use Rattle.refusals.specs.declared.Refusal.TheVariants.{OfFile};
+ghost use Rattle.dayfile.specs.Records.{held, counts, SameLists};
 ghost use Rattle.dayfile.specs.Calls.{Taken, Unpacked};
 
+use crate::lists::Room;
 use crate::stored::Stored;
 use dayformat::Lengths;
 use dayreader::check;
 use refusals::Refusal;
-use timetable::records::{Connection, Footpath, Line};
 
 // Reads n records of one kind that stand in the file from a place on, and answers the place behind them.
 fn read_all<T: Stored>(file: &[u8], from: usize, list: &mut [T], n: usize) -> usize
@@ -32,39 +33,25 @@ fn read_all<T: Stored>(file: &[u8], from: usize, list: &mut [T], n: usize) -> us
     at
 }
 
-// Reads the records of a whole file into the fronts of three lists.
-fn read_lists(
-    file: &[u8],
-    n: &Lengths,
-    connections: &mut [Connection],
-    footpaths: &mut [Footpath],
-    lines: &mut [Line],
-)
+// Reads the records of a whole file into the fronts of the lists.
+fn read_lists(file: &[u8], n: &Lengths, room: &mut Room)
     requires whole { Whole file.now n.now }
-    requires fits { Fits n.now (lengths connections.old footpaths.old lines.old) }
-    ensures { Taken file.now connections.old connections.new footpaths.old footpaths.new lines.old lines.new n.now }
+    requires fits { Fits n.now (counts (held room.old)) }
+    ensures taken { Taken file.now (held room.old) (held room.new) n.now }
+    ensures same { SameLists room.old room.new }
 {
-    let footpaths_from = read_all(file, 0, connections, n.connections);
-    let lines_from = read_all(file, footpaths_from, footpaths, n.footpaths);
-    let _end = read_all(file, lines_from, lines, n.lines);
+    let footpaths_from = read_all(file, 0, room.connections, n.connections);
+    let lines_from = read_all(file, footpaths_from, room.footpaths, n.footpaths);
+    let _end = read_all(file, lines_from, room.lines, n.lines);
 }
 
-// Takes the records of a file over into the fronts of three lists and answers how many there are of each kind, or leaves the lists as they were.
-pub fn unpack(
-    file: &[u8],
-    connections: &mut [Connection],
-    footpaths: &mut [Footpath],
-    lines: &mut [Line],
-) -> Result<Lengths, Refusal>
-    ensures answer { Verdict OfFile order (Fault file.now (lengths connections.old footpaths.old lines.old)) result }
-    ensures after { Unpacked file.now connections.old connections.new footpaths.old footpaths.new lines.old lines.new result }
+// Takes the records of a file over into the fronts of the lists and answers how many there are of each kind, or leaves the lists as they were.
+pub fn unpack(file: &[u8], room: &mut Room) -> Result<Lengths, Refusal>
+    ensures answer { Verdict OfFile order (Fault file.now (counts (held room.old))) result }
+    ensures after { Unpacked file.now (held room.old) (held room.new) result }
+    ensures same { SameLists room.old room.new }
 {
-    let room = Lengths {
-        connections: connections.len(),
-        footpaths: footpaths.len(),
-        lines: lines.len(),
-    };
-    let n = check(file, &room)?;
-    read_lists(file, &n, connections, footpaths, lines);
+    let n = check(file, &room.lengths())?;
+    read_lists(file, &n, room);
     Ok(n)
 }

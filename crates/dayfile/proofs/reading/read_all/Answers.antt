@@ -1,7 +1,7 @@
 use Rattle.std.proofs.Common.{◌<◌, ap, ◌∙◌, arith, rules}
 use Rattle.std.proofs.lemmas.List.{length-take-le}
 use Rattle.dayformat.specs.Layout.{size}
-use Rattle.dayfile.proofs.Lists.{next_place, record_within, record_whole, record_marked, read_more}
+use Rattle.dayfile.proofs.Runs.{next_place, record_within, record_whole, record_marked, read_more}
 use Rattle.dayfile.proofs.reading.read_all.Goals as goal
 
 pub overflow_add-at : goal.overflow_add-at
