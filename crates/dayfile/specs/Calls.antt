@@ -10,6 +10,7 @@ use Rattle.dayfile.specs.Records.{Records, counts, front, encoding}
 -- n places at the front of a list were written, and the rest stays
 pub record Front {X : Type 0} (was is : List X) (n : ℕ) : Type 0 where
   pub fits : n ≤ length was
+  pub long : length is ≡ length was
   pub rest : drop n is ≡ drop n was
 
 -- the file encodes these records, and no others
