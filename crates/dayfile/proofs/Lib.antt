@@ -1,4 +1,3 @@
-mod Bytes
 mod Runs
 mod Taking
 mod Puts

@@ -2,6 +2,7 @@
 #![tactic(auto)]
 
 pub mod lists;
+mod numbers;
 pub mod reading;
 mod stored;
 pub mod writing;

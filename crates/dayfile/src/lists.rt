@@ -1,6 +1,6 @@
 // The three lists that a day file holds: to be packed, or with room for what it holds.
 ghost use Rattle.std.specs.Prelude.{◌≡◌, length};
-ghost use Rattle.dayfile.specs.Records.{listed, held, counts, front, encoding};
+ghost use Rattle.dayfile.specs.Records.{listed, held, front, encoding};
 
 use dayformat::Lengths;
 use timetable::records::{Connection, Footpath, Line};
@@ -34,17 +34,6 @@ impl Lists<'_> {
 }
 
 impl Room<'_> {
-    // How long the lists are.
-    pub fn lengths(&self) -> Lengths
-        ensures { result ≡ counts (held self.now) }
-    {
-        Lengths {
-            connections: self.connections.len(),
-            footpaths: self.footpaths.len(),
-            lines: self.lines.len(),
-        }
-    }
-
     // The first so many records of each list, or all where a list is shorter.
     pub fn front(&self, n: &Lengths) -> Lists<'_>
         ensures { listed result ≡ front n.now (held self.now) }

@@ -51,7 +51,12 @@ pub fn unpack(file: &[u8], room: &mut Room) -> Result<Lengths, Refusal>
     ensures after { Unpacked file.now (held room.old) (held room.new) result }
     ensures same { SameLists room.old room.new }
 {
-    let n = check(file, &room.lengths())?;
+    let lengths = Lengths {
+        connections: room.connections.len(),
+        footpaths: room.footpaths.len(),
+        lines: room.lines.len(),
+    };
+    let n = check(file, &lengths)?;
     read_lists(file, &n, room);
     Ok(n)
 }

@@ -1,5 +1,5 @@
 // The three records of a timetable as they are stored in a day file.
-ghost use Rattle.std.specs.Prelude.{◌≡◌, ℕ, ◌+◌, ◌≤◌, List, length, take, drop};
+ghost use Rattle.std.specs.Prelude.{◌≡◌, ℕ, ◌+◌, ◌≤◌, List, length, take};
 ghost use Rattle.dayformat.specs.declared.Kind.{Kind};
 ghost use Rattle.dayformat.specs.declared.Kind.TheVariants.{Connection as CN, Footpath as FP, Line as HW};
 ghost use Rattle.dayformat.specs.Layout.{layout, size};
@@ -7,6 +7,7 @@ ghost use Rattle.dayfile.specs.Wrote.{Wrote};
 ghost use Rattle.dayformat.specs.Code.{connection_bytes, footpath_bytes, line_bytes};
 ghost use Rattle.std.proofs.Common.{rules};
 
+use crate::numbers::{Number, number_at};
 use dayformat::Kind;
 use timetable::records::{Connection, Footpath, Line};
 
@@ -32,14 +33,6 @@ pub(crate) trait Stored: Copy {
     ghost long: { (x : Self) → length (code x) ≡ size KIND };
 }
 
-// The N bytes from a place on.
-pub(crate) fn bytes_at<const N: usize>(part: &[u8], at: usize) -> [u8; N]
-    requires { at + N ≤ length part.now }
-    ensures { result ≡ take N (drop at part.now) }
-{
-    part[at..at + N].try_into().unwrap()
-}
-
 // Writes bytes from a place on, and answers the place behind them.
 pub(crate) fn put(bytes: &[u8], buffer: &mut [u8], at: usize) -> usize
     requires { at + length bytes.now ≤ length buffer.old }
@@ -52,9 +45,9 @@ pub(crate) fn put(bytes: &[u8], buffer: &mut [u8], at: usize) -> usize
 fn connection_bytes(c: &Connection) -> [u8; 14]
     ensures { result ≡ connection_bytes c.now }
 {
-    let d = c.departure.to_be_bytes();
-    let a = c.arrival.to_be_bytes();
-    let t = c.trip.to_be_bytes();
+    let d = c.departure.to_bytes();
+    let a = c.arrival.to_bytes();
+    let t = c.trip.to_bytes();
     [
         b'C', b'N', c.from, c.to, d[0], d[1], d[2], d[3], a[0], a[1], a[2], a[3], t[0], t[1],
     ]
@@ -63,17 +56,17 @@ fn connection_bytes(c: &Connection) -> [u8; 14]
 fn footpath_bytes(f: &Footpath) -> [u8; 8]
     ensures { result ≡ footpath_bytes f.now }
 {
-    let d = f.duration.to_be_bytes();
+    let d = f.duration.to_bytes();
     [b'F', b'P', f.from, f.to, d[0], d[1], d[2], d[3]]
 }
 
 fn line_bytes(l: &Line) -> [u8; 20]
     ensures { result ≡ line_bytes l.now }
 {
-    let f = l.first.to_be_bytes();
-    let e = l.last.to_be_bytes();
-    let i = l.interval.to_be_bytes();
-    let r = l.ride.to_be_bytes();
+    let f = l.first.to_bytes();
+    let e = l.last.to_bytes();
+    let i = l.interval.to_bytes();
+    let r = l.ride.to_bytes();
     [
         b'H', b'W', l.from, l.to, f[0], f[1], f[2], f[3], e[0], e[1], e[2], e[3], i[0], i[1], i[2],
         i[3], r[0], r[1], r[2], r[3],
@@ -93,9 +86,9 @@ impl Stored for Connection {
         Connection {
             from: part[2],
             to: part[3],
-            departure: u32::from_be_bytes(bytes_at(part, 4)),
-            arrival: u32::from_be_bytes(bytes_at(part, 8)),
-            trip: u16::from_be_bytes(bytes_at(part, 12)),
+            departure: number_at(part, 4),
+            arrival: number_at(part, 8),
+            trip: number_at(part, 12),
         }
     }
 
@@ -117,7 +110,7 @@ impl Stored for Footpath {
         Footpath {
             from: part[2],
             to: part[3],
-            duration: u32::from_be_bytes(bytes_at(part, 4)),
+            duration: number_at(part, 4),
         }
     }
 
@@ -139,10 +132,10 @@ impl Stored for Line {
         Line {
             from: part[2],
             to: part[3],
-            first: u32::from_be_bytes(bytes_at(part, 4)),
-            last: u32::from_be_bytes(bytes_at(part, 8)),
-            interval: u32::from_be_bytes(bytes_at(part, 12)),
-            ride: u32::from_be_bytes(bytes_at(part, 16)),
+            first: number_at(part, 4),
+            last: number_at(part, 8),
+            interval: number_at(part, 12),
+            ride: number_at(part, 16),
         }
     }
 

@@ -1,11 +1,8 @@
 use Rattle.std.proofs.Common.{sym, ◌∙◌, arith}
 use Rattle.dayformat.proofs.Cuts.{record_is, part_and, last_part}
-use Rattle.dayfile.proofs.Bytes.{read_two, read_four}
 use Rattle.dayfile.proofs.stored.ConnectionStored.read.Goals as goal
 
 pub returns : goal.returns
-returns c = let b = c.args.part.now in let r = c.type_inv.part in
+returns c = let b = c.args.part.now in
     record_is b _ _ (omega arith) c.requires.mark
-    (part_and b 4 4 _ _ (read_four b 4 _ _ r (omega arith) c.bytes_at.ensures c.from_be_bytes.ensures)
-    (part_and b 8 4 _ _ (read_four b 8 _ _ r (omega arith) c.bytes_at-2.ensures c.from_be_bytes-2.ensures)
-    (read_two b 12 _ _ r (omega arith) c.bytes_at-3.ensures c.from_be_bytes-3.ensures ∙ sym (last_part b 12 2 c.requires.whole))))
+    (part_and b 4 4 _ _ c.number_at.ensures (part_and b 8 4 _ _ c.number_at-2.ensures (c.number_at-3.ensures ∙ sym (last_part b 12 2 c.requires.whole))))
