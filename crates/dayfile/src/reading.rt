@@ -16,19 +16,23 @@ use dayreader::check;
 use refusals::Refusal;
 
 // Reads n records of one kind that stand in the file from a place on, and answers the place behind them.
-fn read_all<T: Stored>(file: &[u8], from: usize, list: &mut [T], n: usize) -> usize
+fn read_all<T: Stored<N>, const N: usize>(
+    file: &[u8],
+    from: usize,
+    list: &mut [T],
+    n: usize,
+) -> usize
     requires room { n ≤ length list.old }
-    requires stand { Stand file.now from (replicate n T.Stored.KIND) (from + size T.Stored.KIND * n) }
-    ensures answer { result ≡ from + size T.Stored.KIND * n }
-    ensures after { flat_map T.Stored.code (take n list.new) ≡ take (size T.Stored.KIND * n) (drop from file.now) }
+    requires stand { Stand file.now from (replicate n T.Stored.kind) (from + size T.Stored.kind * n) }
+    ensures answer { result ≡ from + size T.Stored.kind * n }
+    ensures after { flat_map T.Stored.code (take n list.new) ≡ take (size T.Stored.kind * n) (drop from file.now) }
     ensures rest { drop n list.new ≡ drop n list.old }
 {
-    let width = T::KIND.size();
     let mut at = from;
     let front = &mut list[..n];
     for record in front.iter_mut() {
-        *record = T::read(&file[at..at + width]);
-        at += width;
+        *record = T::of_bytes(file[at..at + N].try_into().unwrap());
+        at += N;
     }
     at
 }

@@ -8,29 +8,23 @@ ghost use Rattle.dayformat.specs.Code.{connection_bytes, footpath_bytes, line_by
 ghost use Rattle.std.proofs.Common.{rules};
 
 use crate::numbers::{Number, number_at};
-use dayformat::Kind;
 use timetable::records::{Connection, Footpath, Line};
 
-pub(crate) trait Stored: Copy {
+// A record that is stored in N bytes.
+pub(crate) trait Stored<const N: usize>: Copy {
     // Its kind, and its bytes with the mark.
-    const KIND: Kind;
-
-    ghost KIND: { Kind };
+    ghost kind: { Kind };
 
     ghost code: { Self → List ℕ };
 
-    // The record with these bytes.
-    fn read(part: &[u8]) -> Self
-        requires whole { length part.now ≡ size KIND }
-        requires mark { take 2 part.now ≡ (layout KIND).mark }
+    fn of_bytes(part: &[u8; N]) -> Self
+        requires { take 2 part.now ≡ (layout kind).mark }
         ensures { code result ≡ part.now };
 
-    // Writes the record's bytes from a place on, and answers the place behind them.
-    fn write(&self, buffer: &mut [u8], at: usize) -> usize
-        requires { at + size KIND ≤ length buffer.old }
-        ensures { Wrote buffer.old at (code self.now) result buffer.new };
+    fn to_bytes(&self) -> [u8; N]
+        ensures { result ≡ code self.now };
 
-    ghost long: { (x : Self) → length (code x) ≡ size KIND };
+    ghost width: { size kind ≡ N };
 }
 
 // Writes bytes from a place on, and answers the place behind them.
@@ -42,47 +36,14 @@ pub(crate) fn put(bytes: &[u8], buffer: &mut [u8], at: usize) -> usize
     at + bytes.len()
 }
 
-fn connection_bytes(c: &Connection) -> [u8; 14]
-    ensures { result ≡ connection_bytes c.now }
-{
-    let d = c.departure.to_bytes();
-    let a = c.arrival.to_bytes();
-    let t = c.trip.to_bytes();
-    [
-        b'C', b'N', c.from, c.to, d[0], d[1], d[2], d[3], a[0], a[1], a[2], a[3], t[0], t[1],
-    ]
-}
-
-fn footpath_bytes(f: &Footpath) -> [u8; 8]
-    ensures { result ≡ footpath_bytes f.now }
-{
-    let d = f.duration.to_bytes();
-    [b'F', b'P', f.from, f.to, d[0], d[1], d[2], d[3]]
-}
-
-fn line_bytes(l: &Line) -> [u8; 20]
-    ensures { result ≡ line_bytes l.now }
-{
-    let f = l.first.to_bytes();
-    let e = l.last.to_bytes();
-    let i = l.interval.to_bytes();
-    let r = l.ride.to_bytes();
-    [
-        b'H', b'W', l.from, l.to, f[0], f[1], f[2], f[3], e[0], e[1], e[2], e[3], i[0], i[1], i[2],
-        i[3], r[0], r[1], r[2], r[3],
-    ]
-}
-
-impl Stored for Connection {
-    const KIND: Kind = Kind::Connection;
-
-    ghost KIND = { CN };
+impl Stored<14> for Connection {
+    ghost kind = { CN };
 
     ghost code = { connection_bytes };
 
-    ghost long = { Prim.search rules };
+    ghost width = { Prim.search rules };
 
-    fn read(part: &[u8]) -> Connection {
+    fn of_bytes(part: &[u8; 14]) -> Connection {
         Connection {
             from: part[2],
             to: part[3],
@@ -92,21 +53,25 @@ impl Stored for Connection {
         }
     }
 
-    fn write(&self, buffer: &mut [u8], at: usize) -> usize {
-        put(&connection_bytes(self), buffer, at)
+    fn to_bytes(&self) -> [u8; 14] {
+        let d = self.departure.to_bytes();
+        let a = self.arrival.to_bytes();
+        let t = self.trip.to_bytes();
+        [
+            b'C', b'N', self.from, self.to, d[0], d[1], d[2], d[3], a[0], a[1], a[2], a[3], t[0],
+            t[1],
+        ]
     }
 }
 
-impl Stored for Footpath {
-    const KIND: Kind = Kind::Footpath;
-
-    ghost KIND = { FP };
+impl Stored<8> for Footpath {
+    ghost kind = { FP };
 
     ghost code = { footpath_bytes };
 
-    ghost long = { Prim.search rules };
+    ghost width = { Prim.search rules };
 
-    fn read(part: &[u8]) -> Footpath {
+    fn of_bytes(part: &[u8; 8]) -> Footpath {
         Footpath {
             from: part[2],
             to: part[3],
@@ -114,21 +79,20 @@ impl Stored for Footpath {
         }
     }
 
-    fn write(&self, buffer: &mut [u8], at: usize) -> usize {
-        put(&footpath_bytes(self), buffer, at)
+    fn to_bytes(&self) -> [u8; 8] {
+        let d = self.duration.to_bytes();
+        [b'F', b'P', self.from, self.to, d[0], d[1], d[2], d[3]]
     }
 }
 
-impl Stored for Line {
-    const KIND: Kind = Kind::Line;
-
-    ghost KIND = { HW };
+impl Stored<20> for Line {
+    ghost kind = { HW };
 
     ghost code = { line_bytes };
 
-    ghost long = { Prim.search rules };
+    ghost width = { Prim.search rules };
 
-    fn read(part: &[u8]) -> Line {
+    fn of_bytes(part: &[u8; 20]) -> Line {
         Line {
             from: part[2],
             to: part[3],
@@ -139,7 +103,14 @@ impl Stored for Line {
         }
     }
 
-    fn write(&self, buffer: &mut [u8], at: usize) -> usize {
-        put(&line_bytes(self), buffer, at)
+    fn to_bytes(&self) -> [u8; 20] {
+        let f = self.first.to_bytes();
+        let e = self.last.to_bytes();
+        let i = self.interval.to_bytes();
+        let r = self.ride.to_bytes();
+        [
+            b'H', b'W', self.from, self.to, f[0], f[1], f[2], f[3], e[0], e[1], e[2], e[3], i[0],
+            i[1], i[2], i[3], r[0], r[1], r[2], r[3],
+        ]
     }
 }

@@ -12,13 +12,13 @@ use crate::stored::{Stored, put};
 use refusals::{FileRefusal, Refusal};
 
 // Writes records one after another from a place on, and answers the place behind them.
-fn write_all<T: Stored>(list: &[T], buffer: &mut [u8], from: usize) -> usize
+fn write_all<T: Stored<N>, const N: usize>(list: &[T], buffer: &mut [u8], from: usize) -> usize
     requires { from + length (flat_map T.Stored.code list.now) ≤ length buffer.old }
     ensures { Wrote buffer.old from (flat_map T.Stored.code list.now) result buffer.new }
 {
     let mut at = from;
     for record in list {
-        at = record.write(buffer, at);
+        at = put(&record.to_bytes(), buffer, at);
     }
     at
 }

@@ -5,5 +5,5 @@ use Rattle.dayfile.proofs.reading.read_all.Given as goal
 
 abbrev pub invariant-loop-record : goal.invariant-loop-record
 invariant-loop-record g l =
-    (l.at ≡ l.from + size g.T.Stored.KIND * l.record-index)
-    × (flat_map g.T.Stored.code (take l.record-index l.front) ≡ take (size g.T.Stored.KIND * l.record-index) (drop l.from l.file))
+    (l.at ≡ l.from + size g.T.Stored.kind * l.record-index)
+    × (flat_map g.T.Stored.code (take l.record-index l.front) ≡ take (size g.T.Stored.kind * l.record-index) (drop l.from l.file))
