@@ -3,7 +3,7 @@ use Rattle.std.proofs.Common.{◌≡◌, ℕ, ◌+◌, ◌*◌, ◌<◌, ◌≤�
 use lib.Seq.{paste}
 use Rattle.std.specs.List.{flat_map}
 use Rattle.std.proofs.lemmas.List.{length-append, at_drop_more, flat_map_more, take_more, take_all}
-use Rattle.std.proofs.lemmas.List.Edits.{paste-paste, paste_none}
+use Rattle.std.proofs.lemmas.List.Edits.{paste-paste}
 use Rattle.timetable.specs.declared.records.Connection.{Connection}
 use Rattle.timetable.specs.declared.records.Footpath.{Footpath}
 use Rattle.timetable.specs.declared.records.Line.{Line}
@@ -11,9 +11,6 @@ use Rattle.dayformat.specs.declared.Kind.TheVariants as kind
 use Rattle.dayformat.specs.Code.{coded, connection_bytes, footpath_bytes, line_bytes, encode}
 use Rattle.dayfile.specs.Wrote.{Wrote}
 use Rattle.dayfile.specs.Calls.{Written}
-
-pub wrote_none : (d : List ℕ) (at : ℕ) → Wrote d at [] at d
-wrote_none d at = record { place = omega arith; bytes = paste_none d at [] }
 
 pub wrote_then : {d s t b b' : List ℕ} {at p q : ℕ} → at ≤ length d → Wrote d at s p b → Wrote b p t q b' → Wrote d at (s ++ t) q b'
 wrote_then {d} {s} {t} {b} {b'} {at} {p} {q} h w v =
@@ -38,9 +35,6 @@ module _ {X : Type 0} (f : X → List ℕ) where
       → Wrote d at (flat_map f (take i xs)) p b → Wrote b p (f x) q b' → Wrote d at (flat_map f (take (i + 1) xs)) q b'
   wrote_more d xs b b' at i p q x h e g w v = subst (λ (s : List ℕ). Wrote d at s q b')
       (flat_map_more f [] (take i xs) x ∙ ap (flat_map f) (ap (λ (z : X). take i xs ++ z ∷ []) e ∙ sym (take_more xs i x h))) (wrote_then g w v)
-
-  pub wrote_all : (d : List ℕ) (xs : List X) (b : List ℕ) (at i p : ℕ) → length xs ≤ i → Wrote d at (flat_map f (take i xs)) p b → Wrote d at (flat_map f xs) p b
-  wrote_all d xs b at i p h w = subst (λ (s : List X). Wrote d at (flat_map f s) p b) (take_all i xs h) w
 
   length_joined : (w : ℕ) → ((x : X) → length (f x) ≡ w) → (xs : List X) → length (flat_map f xs) ≡ w * length xs
   length_joined w wide [] = omega arith

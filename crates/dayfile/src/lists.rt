@@ -23,6 +23,7 @@ pub struct Room<'a> {
 
 impl Lists<'_> {
     // How many bytes their file has.
+    #[tactic(auto, using(crate::proofs::Puts::length_encode))]
     pub(crate) fn packed_size(&self) -> u128
         ensures { result ≡ length (encoding (listed self.now)) }
     {

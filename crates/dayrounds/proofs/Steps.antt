@@ -10,8 +10,8 @@ use Rattle.refusals.specs.declared.FileRefusal.TheVariants.{EndsEarly, UnknownMa
 use Rattle.dayformat.specs.declared.Lengths.{Lengths}
 use Rattle.dayformat.specs.Faults.{order, Fault}
 use Rattle.dayfile.specs.Records.{Records, counts, front, encoding}
-use Rattle.dayfile.specs.Calls.{Front, Taken, Short, Written, Packed, Unpacked}
-use Rattle.dayrounds.specs.Rounds.{both_orders, Blocked, Rewritten, Returned, Reread}
+use Rattle.dayfile.specs.Calls.{Front, Taken, Short, Written, Unpacked}
+use Rattle.dayrounds.specs.Rounds.{both_orders, Blocked, Returned, Reread}
 
 -- pack has no reason where the buffer is long enough
 long_enough : (file buffer : List ℕ) (f : FileRefusal) → length file ≤ length buffer → Short file buffer f → ⊥
@@ -39,19 +39,12 @@ blocked_fault file room buffer f h x = record { holds = inr x.holds; none_before
     before g (inl p) (inr d) = x.none_before g (inl p) d
     before g (inr p) (inr d) = x.none_before g (inr (p.0, omega (arith, p.1, shifted file room g d, shifted file room f x.holds))) d
 
--- what was read is written as the same bytes
-module _ (file buffer buffer' : List ℕ) (was is r : Records) (n : Lengths) (h : length file ≤ length buffer)
-    (none : (f : FileRefusal) → Fault file (counts was) f → ⊥) (t : Taken file was is n) (e : r ≡ front n is) where
-  same_file : encoding r ≡ file
-  same_file = ap encoding e ∙ sym t.read.encoded
-
-  pub rewritten : (a : Result ℕ Refusal) → Verdict OfFile (6 ∷ []) (Short (encoding r) buffer) a → Packed (encoding r) buffer buffer' a
-      → Verdict OfFile both_orders (Blocked file (counts was) buffer) a × Rewritten file buffer buffer' was is a
-  rewritten (Ok m) v p = (
-    (λ f b. elim b [ inl s ↦ long_enough file buffer f h s | inr d ↦ none f d ]),
-    (subst (λ (z : List ℕ). Written z buffer buffer' m) same_file p, (n, t)),
-  )
-  rewritten (Err x) v p = absurd (long_enough file buffer v.0 h (subst (λ (z : List ℕ). Short z buffer v.0) same_file v.2.holds))
+-- what was read is written, where the buffer is long enough for the file
+pub written_back : (file buffer : List ℕ) (was is r : Records) (n : Lengths) → length file ≤ length buffer → ((f : FileRefusal) → Fault file (counts was) f → ⊥) → Taken file was is n → r ≡ front n is
+    → (a : Result ℕ Refusal) → Verdict OfFile (6 ∷ []) (Short (encoding r) buffer) a → Verdict OfFile both_orders (Blocked file (counts was) buffer) a
+written_back file buffer was is r n h none t e (Ok m) v = λ f b. elim b [ inl s ↦ long_enough file buffer f h s | inr d ↦ none f d ]
+written_back file buffer was is r n h none t e (Err x) v =
+    absurd (long_enough file buffer v.0 h (subst (λ (z : List ℕ). Short z buffer v.0) (ap encoding e ∙ sym t.read.encoded) v.2.holds))
 
 -- what was written is read as the same records
 module _ (r was is : Records) (buffer buffer' : List ℕ) (n : ℕ) (w : Written (encoding r) buffer buffer' n) where

@@ -1,7 +1,7 @@
 use Rattle.std.proofs.Common.{arith}
 use Rattle.std.proofs.lemmas.Result.{err_from_is_err_and}
 use Rattle.dayfile.specs.Records.{listed, held, counts}
-use Rattle.dayrounds.proofs.Steps.{blocked_fault, rewritten}
+use Rattle.dayrounds.proofs.Steps.{blocked_fault, written_back}
 use Rattle.dayrounds.proofs.repack.Goals as goal
 
 pub returns-in_err-n-clause-answer : goal.returns-in_err-n-clause-answer
@@ -13,5 +13,4 @@ returns-in_err-n-clause-answer c =
 pub returns-clause-answer : goal.returns-clause-answer
 returns-clause-answer c =
     let u = c.in_ok-n.ensures in
-    (rewritten c.args.file.now c.args.buffer.now c.pack.new.buffer (held c.args.room.now) (held c.unpack.new.room) (listed c.front.result) c.in_ok-n.n (omega arith) u.answer u.after c.front.ensures
-    c.pack.result c.pack.ensures.answer c.pack.ensures.after).0
+    written_back c.args.file.now c.args.buffer.now (held c.args.room.now) (held c.unpack.new.room) (listed c.front.result) c.in_ok-n.n (omega arith) u.answer u.after c.front.ensures c.pack.result c.pack.ensures.answer
