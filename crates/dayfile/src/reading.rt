@@ -15,7 +15,7 @@ use dayformat::Lengths;
 use dayreader::check;
 use refusals::Refusal;
 
-// Reads n records of one kind that stand in the file from a place on, and answers the place behind them.
+// Reads n records of one kind that stand in the file from a place on, and answers the place behind them. Behind a zip of iter_mut and chunks_exact a proof does not know what was written.
 fn read_all<T: Stored<N>, const N: usize>(
     file: &[u8],
     from: usize,

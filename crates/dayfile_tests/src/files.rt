@@ -104,10 +104,8 @@ const FILES: [(&[u8], usize, usize, usize, Result<(), (u8, Option<usize>)>); 39]
 
 // What a call came to: the refusal's number and its place, if it was refused.
 fn told<T: Drop>(res: Result<T, Refusal>) -> Result<(), (u8, Option<usize>)> {
-    match res {
-        Ok(_) => Ok(()),
-        Err(refusal) => Err((refusal.number(), refusal.place())),
-    }
+    res.map(|_| ())
+        .map_err(|refusal| (refusal.number(), refusal.place()))
 }
 
 #[test]

@@ -66,21 +66,20 @@ impl<'a> Reader<'a> {
     fn next_kind(&self) -> Result<Kind, FileRefusal>
         ensures { Finds self.now.file.now self.now.at self.now.latest result }
     {
-        let left = self.file.len() - self.at;
-        if left < 2 {
+        let rest = &self.file[self.at..];
+        let Some(mark) = rest.first_chunk::<2>() else {
             return Err(FileRefusal::EndsEarly(self.at));
-        }
-        let mark = [self.file[self.at], self.file[self.at + 1]];
-        let Ok(kind) = Kind::try_from(mark) else {
+        };
+        let Ok(kind) = Kind::try_from(*mark) else {
             return Err(FileRefusal::UnknownMark(self.at));
         };
-        if left < kind.size() {
+        if rest.len() < kind.size() {
             return Err(FileRefusal::EndsEarly(self.at));
         }
         if !kind.may_follow(self.latest) {
             return Err(FileRefusal::KindOutOfOrder(self.at));
         }
-        if kind == Kind::End && left > 2 {
+        if kind == Kind::End && rest.len() > 2 {
             return Err(FileRefusal::BytesAfterEnd(self.at));
         }
         Ok(kind)
