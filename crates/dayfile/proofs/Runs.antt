@@ -1,5 +1,6 @@
 -- Records of one kind read from a file, and written into a buffer, one after another.
-use Rattle.std.proofs.Common.{◌≡◌, ℕ, ◌+◌, ◌-◌, ◌*◌, ◌<◌, ◌≤◌, List, [], ◌++◌, length, take, drop, set, replicate, sym, ap, ◌∙◌, subst, mul-le-mul_left, mul-one, mul-add, arith, take-add}
+use Rattle.std.proofs.lemmas.Grind.{common_steps}
+use Rattle.std.proofs.Common.{◌≡◌, ℕ, ◌+◌, ◌-◌, ◌*◌, ◌<◌, ◌≤◌, List, [], ◌++◌, length, take, drop, set, replicate, sym, ap, ◌∙◌, subst, mul-le-mul_left, arith, take-add}
 use Rattle.std.specs.List.{flat_map}
 use Rattle.std.proofs.lemmas.List.{drop-drop, take_more_set, flat_map_more, length-take-le, take-take}
 use Rattle.dayformat.specs.declared.Kind.{Kind}
@@ -8,10 +9,10 @@ use Rattle.dayformat.specs.Faults.{Stand}
 use Rattle.dayformat.proofs.Stands.{size_least, stand_within, mark_in_run}
 
 wider : (w i : ℕ) → w * i + w ≡ w * (i + 1)
-wider w i = sym (mul-add w i 1 ∙ ap (λ (z : ℕ). w * i + z) (mul-one w))
+wider w i = grind (arith, common_steps)
 
 pub next_place : (w from i at width : ℕ) → at ≡ from + w * i → width ≡ w → at + width ≡ from + w * (i + 1)
-next_place w from i at width e v = omega (arith, wider w i)
+next_place w from i at width e v = grind (arith, common_steps)
 
 -- a record of the kind k stands in the file at a place, in so many bytes
 pub record There (file : List ℕ) (k : Kind) (at width : ℕ) : Type 0 where

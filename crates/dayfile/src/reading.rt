@@ -15,7 +15,8 @@ use dayformat::Lengths;
 use dayreader::check;
 use refusals::Refusal;
 
-// Reads n records of one kind that stand in the file from a place on, and answers the place behind them. Behind a zip of iter_mut and chunks_exact a proof does not know what was written.
+// Reads n records of one kind that stand in the file from a place on, and answers the place behind them.
+// The loop stays: after a zip of iter_mut and chunks_exact, a proof knows nothing of the list.
 fn read_all<T: Stored<N>, const N: usize>(
     file: &[u8],
     from: usize,

@@ -11,7 +11,8 @@ use crate::lists::Lists;
 use crate::stored::{Stored, put};
 use refusals::{FileRefusal, Refusal};
 
-// Writes records one after another from a place on, and answers the place behind them. A fold would change a buffer that its closure holds, of which a proof knows nothing then.
+// Writes records one after another from a place on, and answers the place behind them.
+// The loop stays: after a fold whose closure writes to the buffer, a proof knows nothing of it.
 fn write_all<T: Stored<N>, const N: usize>(list: &[T], buffer: &mut [u8], from: usize) -> usize
     requires { from + length (flat_map T.Stored.code list.now) ≤ length buffer.old }
     ensures { Wrote buffer.old from (flat_map T.Stored.code list.now) result buffer.new }

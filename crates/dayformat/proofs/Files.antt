@@ -1,4 +1,5 @@
 -- A file that encodes lists is whole, and a whole file encodes lists.
+use Rattle.std.proofs.lemmas.Grind.{common_steps}
 use Rattle.std.proofs.Common.{◌≡◌, ℕ, ◌+◌, ◌*◌, ◌<◌, ◌≤◌, List, [], ◌∷◌, ◌++◌, length, take, drop, replicate, sym, refl, ap, ◌∙◌, subst, arith}
 use Rattle.std.specs.List.{flat_map}
 use Rattle.std.proofs.lemmas.List.{append-nil, append_assoc, drop_at, drop-drop, length-drop, length-append, take_all, take-append-drop}
@@ -47,7 +48,7 @@ module _ (file : List ℕ) (room : Lengths) {X : Type 0} (f : X → List ℕ) (k
 
 -- what is left after one kind may be of a later one
 onward : (file : List ℕ) (room n : Lengths) (t u : ℕ) (rest : List ℕ) → t ≤ u → Left file room n t rest → Left file room n u rest
-onward file room n t u rest h l = record { place = l.place; latest = l.latest; checked = l.checked; early = omega (arith, l.early); left = l.left }
+onward file room n t u rest h l = grind (arith, common_steps)
 
 module _ (file : List ℕ) (room : Lengths) (cs : List Connection) (fs : List Footpath) (ls : List Line) (fits : Fits (counts (length cs) (length fs) (length ls)) room) (is : file ≡ encode cs fs ls) where
   abbrev footpaths_on : List ℕ

@@ -10,7 +10,8 @@ use crate::record::Reader;
 use dayformat::{Kind, Lengths};
 use refusals::{FileRefusal, Refusal};
 
-// One record more of a kind, if its list has room. Closures that read and write the three counts would need the same arms.
+// One record more of a kind, if its list has room.
+// The match stays: closures that read and write the three counts would need the same arms.
 fn one_more(n: Lengths, kind: Kind, room: &Lengths) -> Option<Lengths>
     ensures { Added room.now n kind result }
 {
