@@ -1,7 +1,7 @@
 use Rattle.std.proofs.Common.{ℕ, List, subst, arith}
 use Rattle.std.proofs.lemmas.Grind.{common_steps}
 use Rattle.dayfile.specs.Wrote.{Wrote}
-use Rattle.dayfile.proofs.Puts.{left_more, wrote_more}
+use Rattle.dayfile.proofs.Puts.{wrote_more}
 use Rattle.dayfile.proofs.writing.write_all.Goals as goal
 
 pub loop-record-preserved : goal.loop-record-preserved
