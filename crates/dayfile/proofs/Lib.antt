@@ -1,3 +1,3 @@
-mod Lists
+mod Runs
 mod Taking
 mod Puts

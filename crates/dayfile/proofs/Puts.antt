@@ -1,19 +1,16 @@
 -- Bytes written one after another into a buffer.
-use Rattle.std.proofs.Common.{◌≡◌, ℕ, ◌+◌, ◌*◌, ◌<◌, ◌≤◌, List, [], ◌∷◌, ◌++◌, length, get_or, take, drop, sym, refl, ap, ◌∙◌, subst, mul-suc, arith}
+use Rattle.std.proofs.lemmas.Grind.{common_steps}
+use Rattle.std.proofs.Common.{◌≡◌, ℕ, ◌+◌, ◌*◌, ◌<◌, ◌≤◌, List, [], ◌∷◌, ◌++◌, length, get_or, take, sym, refl, ap, ◌∙◌, subst, mul-suc, arith}
 use lib.Seq.{paste}
 use Rattle.std.specs.List.{flat_map}
-use Rattle.std.proofs.lemmas.List.{length-append, at_drop_more, flat_map_more, take_more, take_all}
-use Rattle.std.proofs.lemmas.List.Edits.{paste-paste, paste_none}
+use Rattle.std.proofs.lemmas.List.{length-append, flat_map_more, take_more}
+use Rattle.std.proofs.lemmas.List.Edits.{paste-paste}
 use Rattle.timetable.specs.declared.records.Connection.{Connection}
 use Rattle.timetable.specs.declared.records.Footpath.{Footpath}
 use Rattle.timetable.specs.declared.records.Line.{Line}
-use Rattle.dayformat.specs.declared.Kind.TheVariants as kind
-use Rattle.dayformat.specs.Code.{coded, connection_bytes, footpath_bytes, line_bytes, encode}
+use Rattle.dayformat.specs.Code.{connection_bytes, footpath_bytes, line_bytes, encode}
 use Rattle.dayfile.specs.Wrote.{Wrote}
 use Rattle.dayfile.specs.Calls.{Written}
-
-pub wrote_none : (d : List ℕ) (at : ℕ) → Wrote d at [] at d
-wrote_none d at = record { place = omega arith; bytes = paste_none d at [] }
 
 pub wrote_then : {d s t b b' : List ℕ} {at p q : ℕ} → at ≤ length d → Wrote d at s p b → Wrote b p t q b' → Wrote d at (s ++ t) q b'
 wrote_then {d} {s} {t} {b} {b'} {at} {p} {q} h w v =
@@ -24,23 +21,13 @@ wrote_then {d} {s} {t} {b} {b'} {at} {p} {q} h w v =
     }
 
 pub wrote_front : {d s b : List ℕ} {p : ℕ} → length s ≤ length d → Wrote d 0 s p b → Written s d b p
-wrote_front {d} {s} {b} {p} h w =
-    let e : p ≡ length s = omega (arith, w.place) in
-    let f : 0 + length s ≡ p = omega arith in
-    record { count = e; fits = omega arith; front = w.bytes ∙ ap (λ (z : List ℕ). z ++ drop (0 + length s) d) (take_all (length s) s (omega arith)) ∙ ap (λ (z : ℕ). s ++ drop z d) f }
+wrote_front {d} {s} {b} {p} h w = grind (arith, common_steps)
 
 module _ {X : Type 0} (f : X → List ℕ) where
-  -- what is left of a list: one record, and the rest
-  pub left_more : (xs : List X) (i : ℕ) (x : X) → i < length xs → x ≡ get_or xs i x → length (flat_map f (drop i xs)) ≡ length (f x) + length (flat_map f (drop (i + 1) xs))
-  left_more xs i x h e = at_drop_more (λ l. length (flat_map f l)) xs i x h ∙ length-append (f (get_or xs i x)) (flat_map f (drop (i + 1) xs)) ∙ ap (λ (z : X). length (f z) + length (flat_map f (drop (i + 1) xs))) (sym e)
-
   pub wrote_more : (d : List ℕ) (xs : List X) (b b' : List ℕ) (at i p q : ℕ) (x : X) → i < length xs → x ≡ get_or xs i x → at ≤ length d
       → Wrote d at (flat_map f (take i xs)) p b → Wrote b p (f x) q b' → Wrote d at (flat_map f (take (i + 1) xs)) q b'
   wrote_more d xs b b' at i p q x h e g w v = subst (λ (s : List ℕ). Wrote d at s q b')
       (flat_map_more f [] (take i xs) x ∙ ap (flat_map f) (ap (λ (z : X). take i xs ++ z ∷ []) e ∙ sym (take_more xs i x h))) (wrote_then g w v)
-
-  pub wrote_all : (d : List ℕ) (xs : List X) (b : List ℕ) (at i p : ℕ) → length xs ≤ i → Wrote d at (flat_map f (take i xs)) p b → Wrote d at (flat_map f xs) p b
-  wrote_all d xs b at i p h w = subst (λ (s : List X). Wrote d at (flat_map f s) p b) (take_all i xs h) w
 
   length_joined : (w : ℕ) → ((x : X) → length (f x) ≡ w) → (xs : List X) → length (flat_map f xs) ≡ w * length xs
   length_joined w wide [] = omega arith
@@ -48,13 +35,7 @@ module _ {X : Type 0} (f : X → List ℕ) where
 
 -- how long a file is, by its parts and by its records
 pub length_parts : (cs : List Connection) (fs : List Footpath) (ls : List Line) → length (encode cs fs ls) ≡ length (flat_map connection_bytes cs) + (length (flat_map footpath_bytes fs) + (length (flat_map line_bytes ls) + 2))
-length_parts cs fs ls =
-    omega (
-      arith,
-      length-append (flat_map connection_bytes cs) (flat_map footpath_bytes fs ++ (flat_map line_bytes ls ++ coded kind.End [])),
-      length-append (flat_map footpath_bytes fs) (flat_map line_bytes ls ++ coded kind.End []),
-      length-append (flat_map line_bytes ls) (coded kind.End []),
-    )
+length_parts cs fs ls = grind (arith, common_steps)
 
 pub length_encode : (cs : List Connection) (fs : List Footpath) (ls : List Line) → length (encode cs fs ls) ≡ 14 * length cs + 8 * length fs + 20 * length ls + 2
 length_encode cs fs ls =

@@ -1,63 +1,47 @@
 // Packing lists into a file.
 ghost use Rattle.std.specs.Prelude.{◌≡◌, ◌+◌, ◌≤◌, [], ◌∷◌, length};
 ghost use Rattle.std.specs.List.{flat_map};
-ghost use Rattle.dayformat.specs.Code.{encode};
 ghost use Rattle.refusals.specs.Verdicts.{Verdict};
 ghost use Rattle.refusals.specs.declared.Refusal.TheVariants.{OfFile};
+ghost use Rattle.dayfile.specs.Records.{listed, encoding};
 ghost use Rattle.dayfile.specs.Wrote.{Wrote};
 ghost use Rattle.dayfile.specs.Calls.{Short, Written, Packed};
 
+use crate::lists::Lists;
 use crate::stored::{Stored, put};
 use refusals::{FileRefusal, Refusal};
-use timetable::records::{Connection, Footpath, Line};
 
 // Writes records one after another from a place on, and answers the place behind them.
-fn write_all<T: Stored>(list: &[T], buffer: &mut [u8], from: usize) -> usize
+// The loop stays: after a fold whose closure writes to the buffer, a proof knows nothing of it.
+fn write_all<T: Stored<N>, const N: usize>(list: &[T], buffer: &mut [u8], from: usize) -> usize
     requires { from + length (flat_map T.Stored.code list.now) ≤ length buffer.old }
     ensures { Wrote buffer.old from (flat_map T.Stored.code list.now) result buffer.new }
 {
     let mut at = from;
     for record in list {
-        at = record.write(buffer, at);
+        at = put(&record.to_bytes(), buffer, at);
     }
     at
 }
 
 // Writes the file of three lists at a buffer's front, and answers how many bytes it has.
-fn write_lists(
-    connections: &[Connection],
-    footpaths: &[Footpath],
-    lines: &[Line],
-    buffer: &mut [u8],
-) -> usize
-    requires { length (encode connections.now footpaths.now lines.now) ≤ length buffer.old }
-    ensures { Written (encode connections.now footpaths.now lines.now) buffer.old buffer.new result }
+fn write_lists(lists: &Lists, buffer: &mut [u8]) -> usize
+    requires { length (encoding (listed lists.now)) ≤ length buffer.old }
+    ensures { Written (encoding (listed lists.now)) buffer.old buffer.new result }
 {
-    let footpaths_from = write_all(connections, buffer, 0);
-    let lines_from = write_all(footpaths, buffer, footpaths_from);
-    let end = write_all(lines, buffer, lines_from);
+    let footpaths_from = write_all(lists.connections, buffer, 0);
+    let lines_from = write_all(lists.footpaths, buffer, footpaths_from);
+    let end = write_all(lists.lines, buffer, lines_from);
     put(b"EN", buffer, end)
 }
 
-// How many bytes the file of three lists has.
-fn packed_size(connections: &[Connection], footpaths: &[Footpath], lines: &[Line]) -> u128
-    ensures { result ≡ length (encode connections.now footpaths.now lines.now) }
-{
-    14 * connections.len() as u128 + 8 * footpaths.len() as u128 + 20 * lines.len() as u128 + 2
-}
-
 // Writes three lists as a file at a buffer's front and answers how many bytes it has, or leaves the buffer as it was.
-pub fn pack(
-    connections: &[Connection],
-    footpaths: &[Footpath],
-    lines: &[Line],
-    buffer: &mut [u8],
-) -> Result<usize, Refusal>
-    ensures answer { Verdict OfFile (6 ∷ []) (Short (encode connections.now footpaths.now lines.now) buffer.old) result }
-    ensures after { Packed (encode connections.now footpaths.now lines.now) buffer.old buffer.new result }
+pub fn pack(lists: &Lists, buffer: &mut [u8]) -> Result<usize, Refusal>
+    ensures answer { Verdict OfFile (6 ∷ []) (Short (encoding (listed lists.now)) buffer.old) result }
+    ensures after { Packed (encoding (listed lists.now)) buffer.old buffer.new result }
 {
-    if (buffer.len() as u128) < packed_size(connections, footpaths, lines) {
-        return Err(Refusal::OfFile(FileRefusal::BufferTooShort));
+    if (buffer.len() as u128) < lists.packed_size() {
+        return Err(FileRefusal::BufferTooShort.into());
     }
-    Ok(write_lists(connections, footpaths, lines, buffer))
+    Ok(write_lists(lists, buffer))
 }

@@ -1,7 +1,9 @@
 -- A file is checked record by record.
-use Rattle.std.proofs.Common.{◌≡◌, ℕ, zero, suc, ◌+◌, ◌*◌, ◌<◌, ◌≤◌, ◌⊎◌, List, [], ◌∷◌, ◌++◌, length, replicate, Some, None, sum_by, sym, refl, ap, ◌∙◌, subst, inl, inr, mul-zero, mul-suc, arith}
-use Rattle.std.proofs.lemmas.List.{append-nil, append_assoc, replicate_more}
-use Rattle.std.proofs.lemmas.List.Sums.{sum_by-append, sum_by-cons}
+use Rattle.std.proofs.Common.{◌≡◌, ℕ, ◌+◌, ◌*◌, ◌<◌, ◌≤◌, ◌⊎◌, List, [], ◌∷◌, ◌++◌, length, replicate, Some, None, sum_by, sym, refl, ap, ◌∙◌, subst, inl, inr, arith}
+use Rattle.std.proofs.lemmas.List.{replicate_more}
+use Rattle.std.proofs.lemmas.Grind.{common_steps}
+use Rattle.std.proofs.lemmas.List.Folds.{sum_by-replicate}
+use Rattle.std.proofs.lemmas.List.Sums.{sum_by-append}
 use Rattle.refusals.specs.Verdicts.{position}
 use Rattle.dayformat.specs.declared.Kind.{Kind}
 use Rattle.dayformat.specs.declared.Kind.TheVariants as kind
@@ -18,38 +20,24 @@ abbrev kinds_of : ℕ → ℕ → ℕ → List Kind
 kinds_of a b c = replicate a kind.Connection ++ (replicate b kind.Footpath ++ replicate c kind.Line)
 
 more_connections : (a b c : ℕ) → b ≡ 0 → c ≡ 0 → kinds_of (a + 1) b c ≡ kinds_of a b c ++ kind.Connection ∷ []
-more_connections a b c eb ec =
-    (λ i. kinds_of (a + 1) (eb i) (ec i)) ∙ append-nil (replicate (a + 1) kind.Connection) ∙ sym (replicate_more a kind.Connection)
-    ∙ ap (λ (l : List Kind). l ++ kind.Connection ∷ []) (sym (append-nil (replicate a kind.Connection)) ∙ sym (λ i. kinds_of a (eb i) (ec i)))
+more_connections a b c eb ec = grind (arith, common_steps, replicate_more)
 
 more_footpaths : (a b c : ℕ) → c ≡ 0 → kinds_of a (b + 1) c ≡ kinds_of a b c ++ kind.Footpath ∷ []
-more_footpaths a b c ec =
-    (λ i. kinds_of a (b + 1) (ec i))
-    ∙ ap (λ (l : List Kind). replicate a kind.Connection ++ l) (append-nil (replicate (b + 1) kind.Footpath) ∙ sym (replicate_more b kind.Footpath))
-    ∙ sym (append_assoc (replicate a kind.Connection) (replicate b kind.Footpath) (kind.Footpath ∷ []))
-    ∙ ap (λ (l : List Kind). (replicate a kind.Connection ++ l) ++ kind.Footpath ∷ []) (sym (append-nil (replicate b kind.Footpath)))
-    ∙ ap (λ (l : List Kind). l ++ kind.Footpath ∷ []) (sym (λ i. kinds_of a b (ec i)))
+more_footpaths a b c ec = grind (arith, common_steps, replicate_more)
 
 more_lines : (a b c : ℕ) → kinds_of a b (c + 1) ≡ kinds_of a b c ++ kind.Line ∷ []
-more_lines a b c =
-    ap (λ (l : List Kind). replicate a kind.Connection ++ (replicate b kind.Footpath ++ l)) (sym (replicate_more c kind.Line))
-    ∙ ap (λ (l : List Kind). replicate a kind.Connection ++ l) (sym (append_assoc (replicate b kind.Footpath) (replicate c kind.Line) (kind.Line ∷ [])))
-    ∙ sym (append_assoc (replicate a kind.Connection) (replicate b kind.Footpath ++ replicate c kind.Line) (kind.Line ∷ []))
+more_lines a b c = grind (arith, common_steps, replicate_more)
 
 -- how many of each kind they are
-sum_run : (f : Kind → ℕ) (k : Kind) (m : ℕ) → sum_by f (replicate m k) ≡ f k * m
-sum_run f k zero = sym (mul-zero (f k))
-sum_run f k (suc m) = sum_by-cons f k (replicate m k) ∙ omega (arith, sum_run f k m, mul-suc (f k) m)
-
 sum_kinds : (f : Kind → ℕ) (a b c : ℕ) → sum_by f (kinds_of a b c) ≡ f kind.Connection * a + (f kind.Footpath * b + f kind.Line * c)
 sum_kinds f a b c =
     omega (
       arith,
       sum_by-append f (replicate a kind.Connection) (replicate b kind.Footpath ++ replicate c kind.Line),
       sum_by-append f (replicate b kind.Footpath) (replicate c kind.Line),
-      sum_run f kind.Connection a,
-      sum_run f kind.Footpath b,
-      sum_run f kind.Line c,
+      sum_by-replicate f a kind.Connection,
+      sum_by-replicate f b kind.Footpath,
+      sum_by-replicate f c kind.Line,
     )
 
 pub count_connections : (n : Lengths) → count kind.Connection (arranged n) ≡ n.connections

@@ -1,7 +1,8 @@
 -- A file that encodes lists is whole, and a whole file encodes lists.
+use Rattle.std.proofs.lemmas.Grind.{common_steps}
 use Rattle.std.proofs.Common.{◌≡◌, ℕ, ◌+◌, ◌*◌, ◌<◌, ◌≤◌, List, [], ◌∷◌, ◌++◌, length, take, drop, replicate, sym, refl, ap, ◌∙◌, subst, arith}
 use Rattle.std.specs.List.{flat_map}
-use Rattle.std.proofs.lemmas.List.{append-nil, append_assoc, drop_at, drop-drop, length-drop, length-append, take_all}
+use Rattle.std.proofs.lemmas.List.{append-nil, append_assoc, drop_at, drop-drop, length-drop, length-append, take_all, take-append-drop}
 use Rattle.refusals.specs.declared.FileRefusal.{FileRefusal}
 use Rattle.timetable.specs.declared.records.Connection.{Connection}
 use Rattle.timetable.specs.declared.records.Footpath.{Footpath}
@@ -14,7 +15,6 @@ use Rattle.dayformat.specs.Code.{coded, connection_bytes, footpath_bytes, line_b
 use Rattle.dayformat.specs.Faults.{Stand, Fault}
 use Rattle.dayformat.specs.Whole.{Fits, Whole}
 use Rattle.dayformat.proofs.Progress.{Checked}
-use Rattle.dayformat.proofs.Cuts.{next_part}
 use Rattle.dayformat.proofs.Stands.{stand_run}
 use Rattle.dayformat.proofs.Reasons.{none_whole}
 use Rattle.dayformat.proofs.Checks.{checked_none, checked_connection, checked_footpath, checked_line}
@@ -48,7 +48,7 @@ module _ (file : List ℕ) (room : Lengths) {X : Type 0} (f : X → List ℕ) (k
 
 -- what is left after one kind may be of a later one
 onward : (file : List ℕ) (room n : Lengths) (t u : ℕ) (rest : List ℕ) → t ≤ u → Left file room n t rest → Left file room n u rest
-onward file room n t u rest h l = record { place = l.place; latest = l.latest; checked = l.checked; early = omega (arith, l.early); left = l.left }
+onward file room n t u rest h l = grind (arith, common_steps)
 
 module _ (file : List ℕ) (room : Lengths) (cs : List Connection) (fs : List Footpath) (ls : List Line) (fits : Fits (counts (length cs) (length fs) (length ls)) room) (is : file ≡ encode cs fs ls) where
   abbrev footpaths_on : List ℕ
@@ -80,6 +80,10 @@ module _ (file : List ℕ) (room : Lengths) (cs : List Connection) (fs : List Fo
   none_encoded =
       let e = lines_read in
       none_whole file room (counts (length cs) (length fs) (length ls)) e.place e.latest e.checked (ap (take 2) e.left) (omega (arith, length-drop e.place file, ap length e.left))
+
+-- a list from i on: its next n, and the rest
+next_part : (b : List ℕ) (i n : ℕ) → drop i b ≡ take n (drop i b) ++ drop (i + n) b
+next_part b i n = sym (take-append-drop n (drop i b)) ∙ ap (λ (z : List ℕ). take n (drop i b) ++ z) (drop-drop n i b)
 
 module _ (file : List ℕ) (n : Lengths) (w : Whole file n) where
   abbrev one : ℕ

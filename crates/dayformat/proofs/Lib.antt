@@ -1,4 +1,3 @@
-pub mod Cuts
 pub mod Stands
 pub mod Progress
 pub mod Reasons

@@ -65,11 +65,6 @@ module _ (file : List ℕ) (at : ℕ) (latest : Kind) where
       (λ g h s. at_mark file at kind.End _ _ r.1.0 (omega (arith, r.1.1)) 4 (λ _ l. omega (arith, turn_most latest)) (λ _ l. l) (λ x. absurd (omega arith)) g h s.1)
   found_first BufferTooShort r = absurd r
 
-  -- where the next record stands, no reason holds
-  pub none_next : (k : Kind) → Next file at latest k → (f : FileRefusal) → Here file at latest f → ⊥
-  none_next k n f h = at_mark file at k _ _ n.mark n.whole (suc (rank f)) (λ _ l. omega (arith, n.follows)) (λ _ l. l)
-      (λ _ e. omega (arith, n.last e, ap size e)) f (omega arith) h.1
-
 module _ (file : List ℕ) (room n : Lengths) (p : ℕ) (latest : Kind) (c : Checked file room n p latest) where
   -- what is said of the place p, by the records that stand before it
   abbrev pub Said : FileRefusal → Type 0

@@ -1,4 +1,5 @@
 -- Equal files hold equal records.
+use Rattle.std.proofs.lemmas.Grind.{common_steps}
 use Rattle.std.proofs.Common.{◌≡◌, ℕ, List, [], ◌∷◌, ◌++◌, length, get_or, take, drop, sym, refl, ap, ◌∙◌, append_assoc, arith}
 use Rattle.std.specs.List.{flat_map}
 use Rattle.std.proofs.lemmas.List.{take_at, drop_at}
@@ -9,13 +10,10 @@ use Rattle.dayformat.specs.declared.Kind.TheVariants as kind
 use Rattle.dayformat.specs.Code.{bytes, coded, connection_bytes, footpath_bytes, line_bytes, encode}
 
 same_four : (m n : ℕ) → bytes 4 m ≡ bytes 4 n → m ≡ n
-same_four m n e =
-    let a = ap (λ (l : List ℕ). get_or l 0 0) e in let b = ap (λ (l : List ℕ). get_or l 1 0) e in
-    let c = ap (λ (l : List ℕ). get_or l 2 0) e in let d = ap (λ (l : List ℕ). get_or l 3 0) e in
-    omega arith
+same_four m n e = grind (arith, common_steps)
 
 same_two : (m n : ℕ) → bytes 2 m ≡ bytes 2 n → m ≡ n
-same_two m n e = let a = ap (λ (l : List ℕ). get_or l 0 0) e in let b = ap (λ (l : List ℕ). get_or l 1 0) e in omega arith
+same_two m n e = grind (arith, common_steps)
 
 -- the byte at i, and the four bytes from i on
 one : (x y : List ℕ) (i : ℕ) → x ≡ y → get_or x i 0 ≡ get_or y i 0

@@ -1,5 +1,6 @@
 -- Whole records one after another: the marks of a file tell which they are, and where.
 use Rattle.std.proofs.Common.{◌≡◌, ℕ, zero, suc, ◌+◌, ◌*◌, ◌<◌, ◌≤◌, cond, eqb, List, [], ◌∷◌, ◌++◌, length, get_or, replicate, sym, refl, ap, ◌∙◌, subst, mul-zero, mul-suc, arith}
+use Rattle.std.proofs.lemmas.List.{append-nil}
 use Rattle.dayformat.specs.declared.Kind.{Kind}
 use Rattle.dayformat.specs.declared.Kind.TheVariants as kind
 use Rattle.dayformat.specs.Layout.{layout, size, Mark}
@@ -55,12 +56,8 @@ module _ (file : List ℕ) where
       ended [] u = refl
       ended (k ∷ rest) u = absurd (omega (arith, size_least k, stand_on rest (q + size k) q u.2))
 
-      nil : (xs : List Kind) → xs ++ [] ≡ xs
-      nil [] = refl
-      nil (x ∷ xs) = ap (λ (l : List Kind). x ∷ l) (nil xs)
-
       done : ((rest : List Kind) × (ks ≡ js ++ rest) × Stand file q rest q) → js ≡ ks
-      done d = sym (d.1 ∙ ap (λ (l : List Kind). js ++ l) (ended d.0 d.2) ∙ nil js)
+      done d = sym (d.1 ∙ ap (λ (l : List Kind). js ++ l) (ended d.0 d.2) ∙ append-nil js)
 
   -- behind a mark at p the next place is behind its record
   pub stand_next : (ks js : List Kind) (k : Kind) (p q : ℕ) → Stand file 0 ks p → Mark file p k → Stand file 0 js q → p < q → ((layout k).turn < 3) × (p + size k ≤ q)

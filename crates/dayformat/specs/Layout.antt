@@ -1,7 +1,8 @@
 -- The kinds of record in a day file: their order, their marks and their fields. Every contract reads a kind by `layout`.
-use Rattle.std.specs.Prelude.{◌≡◌, ℕ, ◌+◌, List, [], ◌∷◌, length, take, drop, codes, sum}
+use Rattle.std.specs.Prelude.{◌≡◌, ℕ, ◌+◌, List, [], ◌∷◌, length, take, drop, codes, sum, Ok, Err, Result, ◌≢◌}
 use Rattle.dayformat.specs.declared.Kind.{Kind}
 use Rattle.dayformat.specs.declared.Kind.TheVariants as kind
+use Rattle.dayformat.specs.declared.NoMark.{NoMark}
 
 -- the place of a kind in the order of a file, its mark, and how many bytes each of its fields has
 pub record Layout : Type 0 where
@@ -33,3 +34,8 @@ step kind.End = 0
 -- the mark of the kind stands at the place p
 abbrev pub Mark : List ℕ → ℕ → Kind → Type 0
 Mark file p k = take 2 (drop p file) ≡ (layout k).mark
+
+-- the kind whose mark two bytes are, or that they are the mark of none
+abbrev pub Marks : List ℕ → Result Kind NoMark → Type 0
+Marks two (Ok k) = (layout k).mark ≡ two
+Marks two (Err e) = (e.0 ≡ two) × ((k : Kind) → (layout k).mark ≢ two)

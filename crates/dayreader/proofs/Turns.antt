@@ -1,5 +1,5 @@
 -- What a turn of the checking loop finds, from what the reader handed out.
-use Rattle.std.proofs.Common.{◌≡◌, ℕ, ◌+◌, List, Some, None, sym, refl, ◌∙◌, subst, arith, Bor}
+use Rattle.std.proofs.Common.{◌≡◌, ℕ, ◌+◌, List, Some, None, sym, refl, ◌∙◌, subst}
 use Rattle.refusals.specs.Verdicts.{First}
 use Rattle.refusals.specs.declared.Refusal.{Refusal}
 use Rattle.refusals.specs.declared.Refusal.TheVariants.{OfFile}
@@ -16,7 +16,6 @@ use Rattle.dayformat.proofs.Reasons.{refused_read, refused_full, none_whole}
 use Rattle.dayformat.proofs.Checks.{checked_next, full_next}
 use Rattle.dayformat.proofs.Files.{none_encoded}
 use Rattle.dayreader.specs.declared.record.Record.{Record}
-use Rattle.dayreader.specs.declared.record.Record.TheVariants.{Connection, Footpath, Line, End}
 use Rattle.dayreader.specs.declared.record.Reader.{Reader}
 use Rattle.dayreader.specs.Reads.{kind_of, Handed}
 
@@ -53,9 +52,3 @@ module _ (file : List ℕ) (room n : Lengths) (reader : Reader) (s : Stood file 
         (subst (λ (z : Kind). Checked file room m (reader.at + step (kind_of r)) z) (sym h.latest)
         (checked_next file room n reader.at reader.latest s.1 (kind_of r) m o (next_in r after h) (subst (λ (z : Kind). Added room n z (Some m)) e a))),
   )
-
-pub not_end : (r : Record) → ((b : Bor (List ℕ)) → r ≡ End b → ⊥) → kind_of r ≡ kind.End → ⊥
-not_end (Connection b) o e = let z : ◌≡◌ {A = ℕ} 0 1 = cc in omega arith
-not_end (Footpath b) o e = let z : ◌≡◌ {A = ℕ} 0 1 = cc in omega arith
-not_end (Line b) o e = let z : ◌≡◌ {A = ℕ} 0 1 = cc in omega arith
-not_end (End b) o e = o b refl

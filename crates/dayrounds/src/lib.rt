@@ -4,52 +4,37 @@
 ghost use Rattle.std.specs.Prelude.{◌≡◌};
 ghost use Rattle.refusals.specs.Verdicts.{Verdict};
 ghost use Rattle.refusals.specs.declared.Refusal.TheVariants.{OfFile};
-ghost use Rattle.dayformat.specs.Whole.{lengths};
-ghost use Rattle.dayformat.specs.Code.{encode};
+ghost use Rattle.dayfile.specs.Records.{listed, held, counts, encoding, SameLists};
 ghost use Rattle.dayrounds.specs.Rounds.{both_orders, Blocked, Rewritten, Reread, Holds};
 
-use dayfile::{pack, unpack};
+use dayfile::{Lists, Room, pack, unpack};
 use dayformat::Lengths;
 use refusals::{FileRefusal, Refusal};
-use timetable::records::{Connection, Footpath, Line};
 
 // Unpacks a file and packs what it holds into a buffer: the same bytes.
-pub fn repack(
-    file: &[u8],
-    connections: &mut [Connection],
-    footpaths: &mut [Footpath],
-    lines: &mut [Line],
-    buffer: &mut [u8],
-) -> Result<usize, Refusal>
-    ensures answer { Verdict OfFile both_orders (Blocked file.now (lengths connections.old footpaths.old lines.old) buffer.old) result }
-    ensures after { Rewritten file.now buffer.old buffer.new connections.old connections.new footpaths.old footpaths.new lines.old lines.new result }
+pub fn repack(file: &[u8], room: &mut Room, buffer: &mut [u8]) -> Result<usize, Refusal>
+    ensures answer { Verdict OfFile both_orders (Blocked file.now (counts (held room.old)) buffer.old) result }
+    ensures after { Rewritten file.now buffer.old buffer.new (held room.old) (held room.new) result }
+    ensures same { SameLists room.old room.new }
 {
     if buffer.len() < file.len() {
-        return Err(Refusal::OfFile(FileRefusal::BufferTooShort));
+        return Err(FileRefusal::BufferTooShort.into());
     }
-    let n = unpack(file, connections, footpaths, lines)?;
-    let (c, f, l) = (n.connections, n.footpaths, n.lines);
-    pack(&connections[0..c], &footpaths[0..f], &lines[0..l], buffer)
+    let n = unpack(file, room)?;
+    pack(&room.front(&n), buffer)
 }
 
 // Packs records into a buffer and unpacks it into three other lists: the same records.
 pub fn pack_and_reread(
-    connections: &[Connection],
-    footpaths: &[Footpath],
-    lines: &[Line],
+    lists: &Lists,
     buffer: &mut [u8],
-    connections_again: &mut [Connection],
-    footpaths_again: &mut [Footpath],
-    lines_again: &mut [Line],
+    again: &mut Room,
 ) -> Result<Lengths, Refusal>
-    ensures answer { Verdict OfFile both_orders (Blocked (encode connections.now footpaths.now lines.now) (lengths connections_again.old footpaths_again.old lines_again.old) buffer.old) result }
-    ensures after { Holds (encode connections.now footpaths.now lines.now) buffer.old buffer.new × Reread buffer.old connections.now connections_again.old connections_again.new footpaths.now footpaths_again.old footpaths_again.new lines.now lines_again.old lines_again.new result }
+    ensures answer { Verdict OfFile both_orders (Blocked (encoding (listed lists.now)) (counts (held again.old)) buffer.old) result }
+    ensures written { Holds (encoding (listed lists.now)) buffer.old buffer.new }
+    ensures after { Reread buffer.old (listed lists.now) (held again.old) (held again.new) result }
+    ensures same { SameLists again.old again.new }
 {
-    let n = pack(connections, footpaths, lines, buffer)?;
-    unpack(
-        &buffer[0..n],
-        connections_again,
-        footpaths_again,
-        lines_again,
-    )
+    let n = pack(lists, buffer)?;
+    unpack(&buffer[..n], again)
 }

@@ -1,26 +1,23 @@
-use Rattle.std.proofs.Common.{arith, rules}
+use Rattle.std.proofs.Common.{take, sym, ap, ◌∙◌, arith, rules}
+use Rattle.std.proofs.lemmas.Result.{MatchResult-at_ok}
 use Rattle.dayformat.specs.Layout.{size}
-use Rattle.dayfile.proofs.Lists.{next_place, record_within, record_whole, record_marked, read_more, kept_more}
+use Rattle.dayfile.proofs.Runs.{next_place, there, read_more}
 use Rattle.dayfile.proofs.reading.read_all.Goals as goal
 
 pub overflow_add-at : goal.overflow_add-at
-overflow_add-at g c = let e = record_within c.args.file.now g.T.Stored.kind c.args.from c.args.n c.loop-i.i c.loop-i.at c.width-width.result c.requires.stand c.loop-i-test.true c.loop-i.invariant.0 c.width-width.ensures in search rules
+overflow_add-at g c = let t = (there c.args.list.now c.args.file.now g.T.Stored.kind c.args.from c.args.n c.loop-record.record-index c.loop-record.at g.row.N c.requires.room c.requires.stand c.loop-record-test.true c.loop-record.invariant.0 (sym g.met.T.Stored.width)).within in search rules
 
-pub slice_bounds-read-end : goal.slice_bounds-read-end
-slice_bounds-read-end g c = record_within c.args.file.now g.T.Stored.kind c.args.from c.args.n c.loop-i.i c.loop-i.at c.width-width.result c.requires.stand c.loop-i-test.true c.loop-i.invariant.0 c.width-width.ensures
+pub slice_bounds-try_into-end : goal.slice_bounds-try_into-end
+slice_bounds-try_into-end g c = (there c.args.list.now c.args.file.now g.T.Stored.kind c.args.from c.args.n c.loop-record.record-index c.loop-record.at g.row.N c.requires.room c.requires.stand c.loop-record-test.true c.loop-record.invariant.0 (sym g.met.T.Stored.width)).within
 
-pub read-requires : goal.read-requires
-read-requires g c = record {
-  whole = record_whole c.args.file.now g.T.Stored.kind c.args.from c.args.n c.loop-i.i c.loop-i.at c.width-width.result c.requires.stand c.loop-i-test.true c.loop-i.invariant.0 c.width-width.ensures;
-  mark = record_marked c.args.file.now g.T.Stored.kind c.args.from c.args.n c.loop-i.i c.loop-i.at c.width-width.result c.requires.stand c.loop-i-test.true c.loop-i.invariant.0 c.width-width.ensures;
-}
+pub of_bytes-requires : goal.of_bytes-requires
+of_bytes-requires g c =
+    let t = there c.args.list.now c.args.file.now g.T.Stored.kind c.args.from c.args.n c.loop-record.record-index c.loop-record.at g.row.N c.requires.room c.requires.stand c.loop-record-test.true c.loop-record.invariant.0 (sym g.met.T.Stored.width) in
+    let mark = ap (take 2) (MatchResult-at_ok _ _ _ c.unwrap.ensures c.try_into.ensures.1).same ∙ t.marked in let within = t.within in search rules
 
-pub overflow_add-at-in-loop-i : goal.overflow_add-at-in-loop-i
-overflow_add-at-in-loop-i g c = let e = record_within c.args.file.now g.T.Stored.kind c.args.from c.args.n c.loop-i.i c.loop-i.at c.width-width.result c.requires.stand c.loop-i-test.true c.loop-i.invariant.0 c.width-width.ensures in search rules
-
-pub loop-i-preserved : goal.loop-i-preserved
-loop-i-preserved g c = let i = c.loop-i.invariant in let w = size g.T.Stored.kind in (
-  next_place w c.args.from c.loop-i.i c.loop-i.at c.width-width.result i.0 c.width-width.ensures,
-  read_more g.T.Stored.code w c.args.file.now c.args.from c.loop-i.list c.loop-i.i c.loop-i.at c.width-width.result c.read.result (omega arith) i.0 c.width-width.ensures c.read.ensures i.1,
-  kept_more c.loop-i.list c.args.list.now c.loop-i.i c.read.result i.2,
-)
+pub loop-record-preserved : goal.loop-record-preserved
+loop-record-preserved g c = let i = c.loop-record.invariant in let w = size g.T.Stored.kind in let v = sym g.met.T.Stored.width in
+    let same = (MatchResult-at_ok _ _ _ c.unwrap.ensures c.try_into.ensures.1).same in (
+      next_place w c.args.from c.loop-record.record-index c.loop-record.at g.row.N i.0 v,
+      read_more g.T.Stored.code w c.args.file.now c.args.from c.loop-record.front c.loop-record.record-index c.loop-record.at g.row.N c.of_bytes.result (omega arith) i.0 v (c.of_bytes.ensures ∙ same) i.1,
+    )

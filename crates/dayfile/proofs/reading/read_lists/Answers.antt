@@ -23,12 +23,12 @@ read_all-end-requires c = let n = c.args.n.now in
       stand = subst (λ (z : ℕ). Stand c.args.file.now z (replicate n.lines kind.Line) (z + 20 * n.lines)) (sym e) (run_lines c.args.file.now n c.requires.whole);
     }
 
-pub returns : goal.returns
-returns c = let n = c.args.n.now in
+pub returns-clause-taken : goal.returns-clause-taken
+returns-clause-taken c = let n = c.args.n.now in
     record {
-      read = taken_read c.args.file.now n c.requires.whole c.read_all-footpaths_from.result c.read_all-lines_from.result _ _ _ c.read_all-footpaths_from.ensures.answer c.read_all-lines_from.ensures.answer
+      read = taken_read c.args.file.now n c.requires.whole c.read_all-footpaths_from.result c.read_all-lines_from.result _ c.read_all-footpaths_from.ensures.answer c.read_all-lines_from.ensures.answer
           c.read_all-footpaths_from.ensures.after c.read_all-lines_from.ensures.after c.read_all-end.ensures.after;
-      connections = record { fits = c.requires.fits.connections; rest = c.read_all-footpaths_from.ensures.rest };
-      footpaths = record { fits = c.requires.fits.footpaths; rest = c.read_all-lines_from.ensures.rest };
-      lines = record { fits = c.requires.fits.lines; rest = c.read_all-end.ensures.rest };
+      connections = record { fits = c.requires.fits.connections; long = c.read_all-footpaths_from.auto.list; rest = c.read_all-footpaths_from.ensures.rest };
+      footpaths = record { fits = c.requires.fits.footpaths; long = c.read_all-lines_from.auto.list; rest = c.read_all-lines_from.ensures.rest };
+      lines = record { fits = c.requires.fits.lines; long = c.read_all-end.auto.list; rest = c.read_all-end.ensures.rest };
     }

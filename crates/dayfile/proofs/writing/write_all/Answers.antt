@@ -1,18 +1,12 @@
-use Rattle.std.proofs.Common.{arith}
-use Rattle.dayfile.proofs.Puts.{wrote_none, left_more, wrote_more, wrote_all}
+use Rattle.std.proofs.Common.{ℕ, List, subst, arith}
+use Rattle.std.proofs.lemmas.Grind.{common_steps}
+use Rattle.dayfile.specs.Wrote.{Wrote}
+use Rattle.dayfile.proofs.Puts.{wrote_more}
 use Rattle.dayfile.proofs.writing.write_all.Goals as goal
 
-pub loop-record-init : goal.loop-record-init
-loop-record-init g c = (wrote_none c.args.buffer.now c.args.from, c.requires)
-
-pub write-at-requires : goal.write-at-requires
-write-at-requires g c = omega (arith, left_more g.T.Stored.code c.args.list.now c.loop-record.record-index c.record-item.result (omega arith) c.record-item.is, g.met.T.Stored.long c.record-item.result)
-
 pub loop-record-preserved : goal.loop-record-preserved
-loop-record-preserved g c = let x = c.record-item.result in let w = c.write-at.ensures in (
-  wrote_more g.T.Stored.code c.args.buffer.now c.args.list.now c.loop-record.buffer _ c.args.from c.loop-record.record-index c.loop-record.at _ x (omega arith) c.record-item.is (omega (arith, c.requires)) c.loop-record.invariant.0 w,
-  omega (arith, left_more g.T.Stored.code c.args.list.now c.loop-record.record-index x (omega arith) c.record-item.is, w.place, c.write-at.auto.buffer),
-)
-
-pub returns : goal.returns
-returns g c = wrote_all g.T.Stored.code c.args.buffer.now c.args.list.now c.loop-record.buffer c.args.from c.loop-record.record-index c.loop-record.at (omega arith) c.loop-record.invariant.0
+loop-record-preserved g c = let x = c.record-item.result in
+    let w = subst (λ (s : List ℕ). Wrote c.loop-record.buffer c.loop-record.at s c.put-at.result c.put-at.new.buffer) c.to_bytes.ensures c.put-at.ensures in (
+      wrote_more g.T.Stored.code c.args.buffer.now c.args.list.now c.loop-record.buffer _ c.args.from c.loop-record.record-index c.loop-record.at _ x (omega arith) c.record-item.is (omega (arith, c.requires)) c.loop-record.invariant.0 w,
+      grind (arith, common_steps),
+    )

@@ -1,8 +1,0 @@
-use Rattle.std.proofs.Common.{sym, ◌∙◌, arith}
-use Rattle.dayformat.proofs.Cuts.{record_is, part_and, last_part}
-use Rattle.dayfile.proofs.stored.ConnectionStored.read.Goals as goal
-
-pub returns : goal.returns
-returns c = let b = c.args.part.now in
-    record_is b _ _ (omega arith) c.requires.mark
-    (part_and b 4 4 _ _ c.four_at.ensures (part_and b 8 4 _ _ c.four_at-2.ensures (c.two_at.ensures ∙ sym (last_part b 12 2 c.requires.whole))))

@@ -1,6 +1,0 @@
-use Rattle.std.proofs.Common.{ℕ, List, subst}
-use Rattle.dayfile.specs.Wrote.{Wrote}
-use Rattle.dayfile.proofs.stored.LineStored.write.Goals as goal
-
-pub returns : goal.returns
-returns c = subst (λ (s : List ℕ). Wrote c.args.buffer.now c.args.at s c.put.result c.put.new.buffer) c.line_bytes.ensures c.put.ensures
