@@ -1,7 +1,7 @@
 -- What the chains over the entries compute, in the words of the journeys listed.
-use Rattle.std.proofs.Common.{◌≡◌, ℕ, ◌+◌, ◌<◌, ◌==◌, ◌||◌, ◌&&◌, ◌↔◌, Bool, true, false, cond, ◌⊎◌, List, [], ◌∷◌, ◌++◌, length, take, drop, sym, refl, ap, ◌∙◌, subst, inl, inr, Some, None, IsTrue, slice_get, is_some, Option, get_or, append-nil}
+use Rattle.std.proofs.Common.{◌≡◌, ℕ, ◌+◌, ◌<◌, ◌==◌, ◌||◌, ◌&&◌, ◌↔◌, Bool, true, false, cond, ◌⊎◌, List, [], ◌∷◌, ◌++◌, length, take, drop, sym, refl, ap, ◌∙◌, subst, inl, inr, Some, None, IsTrue, slice_get, is_some, Option, get_or, append-nil, zero, suc, arith}
 use Rattle.std.specs.List.{list_any, filter_map, cons_option}
-use Rattle.std.proofs.lemmas.List.{take_more}
+use Rattle.std.proofs.lemmas.List.{take_more, map-append}
 use Rattle.std.proofs.lemmas.List.Elements.{filter_map-append}
 use Rattle.std.specs.Bool.{Decides}
 use Rattle.std.specs.Cmp.Lexicographic.{pointwise, bytes_decides}
@@ -100,3 +100,23 @@ module _ (es : List Entry) (i : ℕ) (d : Entry) (p : List ℕ) (lt : i < length
 
   pub more_none : next_after p (edges_of (get_or es i d)) ≡ None → filter_map (λ e. next_after p (edges_of e)) (take (i + 1) es) ≡ filter_map (λ e. next_after p (edges_of e)) (take i es)
   more_none h = last ∙ ap (λ (o : Option ℕ). filter_map (λ e. next_after p (edges_of e)) (take i es) ++ cons_option o []) h ∙ append-nil _
+
+pub in_last : {A : Type 0} (l : List A) (x e : A) → In x (l ++ (e ∷ [])) ↔ (In x l ⊎ (x ≡ e))
+in_last [] x e = ((λ h. elim h [ inl q ↦ inr q | inr k ↦ absurd k ]), λ h. elim h [ inl k ↦ absurd k | inr q ↦ inl q ])
+in_last (y ∷ l) x e =
+    let (f, g) = in_last l x e in (
+      (λ h. elim h [ inl q ↦ inl (inl q) | inr k ↦ elim (f k) [ inl z ↦ inl (inr z) | inr q ↦ inr q ] ]),
+      λ h. elim h [ inl k ↦ elim k [ inl q ↦ inl q | inr z ↦ inr (g (inl z)) ] | inr q ↦ inr (g (inr q)) ],
+    )
+
+-- the edges of the entries up to a place
+pub in_more : (es : List Entry) (i : ℕ) (e : Entry) → i < length es → e ≡ get_or es i e → (y : List ℕ) → In y (all_edges (take (i + 1) es)) → In y (all_edges (take i es)) ⊎ (y ≡ edges_of e)
+in_more es i e lt is y h = (in_last (all_edges (take i es)) y (edges_of e)).0 (subst (λ (z : List (List ℕ)). In y z) all h)
+  where
+    all : all_edges (take (i + 1) es) ≡ all_edges (take i es) ++ (edges_of e ∷ [])
+    all = ap all_edges (take_more es i e lt) ∙ map-append edges_of (take i es) (get_or es i e ∷ []) ∙ ap (λ (z : Entry). all_edges (take i es) ++ (edges_of z ∷ [])) (sym is)
+
+pub in_all : (es : List Entry) (i : ℕ) (d : Entry) → i < length es → In (edges_of (get_or es i d)) (all_edges es)
+in_all [] i d lt = absurd (omega arith)
+in_all (e ∷ es) zero d lt = inl refl
+in_all (e ∷ es) (suc i) d lt = inr (in_all es i d (omega arith))

@@ -1,5 +1,5 @@
 // A journey, an entry of a search, and the list of the entries.
-ghost use Rattle.std.specs.Prelude.{◌≡◌, ◌<◌, ◌≤◌, length, take, drop, MatchResult};
+ghost use Rattle.std.specs.Prelude.{◌≡◌, ◌+◌, ◌≤◌, ◌↔◌, ◌++◌, length, take, drop, IsOk, IfOk};
 
 use arrayvec::{ArrayVec, CapacityError};
 
@@ -13,10 +13,21 @@ pub struct Journey {
 impl Journey {
     // The journey of the edges, unless they are more than 255.
     pub fn new(arrival: u32, edges: &[u16]) -> Result<Journey, CapacityError>
-        ensures { MatchResult result (λ j. (j.arrival ≡ arrival) × (j.edges.items ≡ edges.now) × (length edges.now ≤ 255)) (λ _. 255 < length edges.now) }
+        ensures ok { IfOk result (λ j. (j.arrival ≡ arrival) × (j.edges.items ≡ edges.now)) }
+        ensures variant { IsOk result ↔ (length edges.now ≤ 255) }
     {
         let edges = ArrayVec::try_from(edges)?;
         Ok(Journey { arrival, edges })
+    }
+
+    // The journey of a beginning and the edges that follow it, unless they are more than 255.
+    pub fn joined(arrival: u32, beginning: &[u16], onward: &[u16]) -> Result<Journey, CapacityError>
+        ensures ok { IfOk result (λ j. (j.arrival ≡ arrival) × (j.edges.items ≡ beginning.now ++ onward.now)) }
+        ensures variant { IsOk result ↔ (length beginning.now + length onward.now ≤ 255) }
+    {
+        let mut journey = Journey::new(arrival, beginning)?;
+        journey.edges.try_extend_from_slice(onward)?;
+        Ok(journey)
     }
 
     // Tells the arrival and how many edges there are. They are written at the buffer's front.
