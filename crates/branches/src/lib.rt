@@ -44,7 +44,7 @@ fn is_place(entries: &[Entry], beginning: &[u16]) -> bool
     beginning.is_empty() || go_on(entries, beginning)
 }
 
-// What the detours leave, and the journeys that they may be.
+// The entries that the detours leave, and what those are journeys of.
 #[derive(Drop)]
 struct Branching<'a, N: Network> {
     network: &'a N,

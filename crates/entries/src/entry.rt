@@ -4,7 +4,7 @@ ghost use Rattle.std.specs.Prelude.{◌≡◌, ◌+◌, ◌≤◌, ◌↔◌, �
 use arrayvec::{ArrayVec, CapacityError};
 
 // The arrival of a journey, and its edges, which are at most 255. They compare in this order: simple journeys by rank.
-#[derive(Drop, Default, PartialEq, Eq, PartialOrd, Ord)]
+#[derive(Clone, Drop, Default, PartialEq, Eq, PartialOrd, Ord)]
 pub struct Journey {
     pub arrival: u32,
     pub edges: ArrayVec<u16, 255>,
@@ -51,15 +51,15 @@ pub enum Standing {
     Struck,
 }
 
-// A journey that was given or struck.
-#[derive(Drop, Default)]
+// A journey that was given or struck. A place of the list with no entry holds the default one.
+#[derive(Clone, Drop, Default)]
 pub struct Entry {
     pub standing: Standing,
     pub journey: Journey,
 }
 
 // The entries of a search, in the order in which they came; there are at most sixteen.
-#[derive(Drop, Default)]
+#[derive(Clone, Drop)]
 pub struct Entries {
     pub list: ArrayVec<Entry, 16>,
 }

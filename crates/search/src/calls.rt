@@ -9,7 +9,8 @@ pub enum Call<'a> {
     Strike(&'a [u16]),
 }
 
-#[derive(Drop)]
+// What a call that is not refused comes to.
+#[derive(Clone, Drop, PartialEq, Eq)]
 pub enum Reply {
     Gave(Journey),
     Struck,

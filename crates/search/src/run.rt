@@ -10,7 +10,7 @@ use entries::entry::Journey;
 use journeys::question::Question;
 use networks::Network;
 
-// Sends one call to a search, and makes a record of its answer.
+// Sends one call to a search, and makes a record of its answer. The calls are data that the law reads, so a match tells them apart.
 fn answer<'a, N: Network>(search: &mut OpenSearch<N>, call: Call<'a>) -> Answer
     ensures same { (search.new.network ≡ search.old.network) × (search.new.question ≡ search.old.question) }
     ensures turn { Entered (N.Network.meaning search.old.network) search.old.question search.old.entries (asked call.entry) result search.new.entries }
@@ -33,6 +33,7 @@ fn send_all<'a, N: Network>(search: &mut OpenSearch<N>, calls: &[Call<'a>], answ
     ensures ran { Ran (N.Network.meaning search.old.network) search.old.question search.old.entries (turns calls.now answers.new) search.new.entries }
     ensures rest { drop (length calls.now) answers.new ≡ drop (length calls.now) answers.old }
 {
+    // By place: of answers written through iter_mut and zip no contract tells what stands there afterwards.
     let count = calls.len().min(answers.len());
     for (k, call) in calls[..count].iter().enumerate() {
         answers[k] = answer(search, *call);

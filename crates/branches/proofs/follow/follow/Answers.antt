@@ -1,4 +1,4 @@
-use Rattle.branches.proofs.Advancing.{no_way, at_next}
+use Rattle.branches.proofs.Advancing.{no_way}
 use Rattle.branches.proofs.follow.follow.Goals as goal
 
 pub loop-edge-init : goal.loop-edge-init
@@ -8,8 +8,3 @@ pub returns-in_err-position : goal.returns-in_err-position
 returns-in_err-position g c =
     rw c.from_residual.ensures (no_way (g.N.Network.meaning c.args.network.now) c.args.question.now c.args.edges.now c.loop-edge.edge-index c.loop-edge-test.true
     (c.in_err-position.ensures c.args.question.now _ c.loop-edge.invariant))
-
-pub loop-edge-preserved : goal.loop-edge-preserved
-loop-edge-preserved g c =
-    at_next (g.N.Network.meaning c.args.network.now) c.args.question.now c.args.edges.now c.loop-edge.edge-index c.loop-edge-test.true c.in_ok-position.position
-    (c.in_ok-position.ensures c.args.question.now _ c.loop-edge.invariant)
