@@ -40,7 +40,7 @@ module _ (m : Meaning) (q : Question) (p : List ℕ) (e : ℕ) (here : Position)
   no_step o h = stays (λ w s st. absurd (not_taken m here.stop here.instant e o h w s st))
 
   step_from : (step : Step) → Taken m (Some here.stop) here.instant e (Ok step) → Takes m here.stop here.instant e step.to step.arrival
-  step_from step h = subst (λ (z : ℕ). Takes m z here.instant e step.to step.arrival) (sym h.0) h.1
+  step_from step h = rw h.0 h.1
 
   pub comes_again : (step : Step) → Taken m (Some here.stop) here.instant e (Ok step) → (step.to ≡ here.stop) ⊎ Holds here.behind step.to → Advanced m q p e None
   comes_again step h k = stays (λ w s st. let same = same_stop (step_from step h) st in elim k [ inl e ↦ inl (same ∙ e) | inr j ↦ inr (subst (Holds here.behind) (sym same) j) ])
@@ -68,10 +68,10 @@ module _ (m : Meaning) (q : Question) (es : List ℕ) (k : ℕ) (lt : k < length
   whole = ap (λ (z : List ℕ). take k es ++ z) (sym (drop_more es k 0 lt)) ∙ take-append-drop k es
 
   pub no_way : Advanced m q (take k es) (get_or es k 0) None → (d a : ℕ) → ¬ Way m Nothing q.origin q.start d a es
-  no_way h d a w = h d a (drop (k + 1) es) (subst (λ (z : List ℕ). Way m Nothing q.origin q.start d a z) (sym whole) w)
+  no_way h d a w = h d a (drop (k + 1) es) (rw whole w)
 
   pub at_next : (there : Position) → Advanced m q (take k es) (get_or es k 0) (Some there) → At m q (take (k + 1) es) there
-  at_next there h = subst (λ (z : List ℕ). At m q z there) (sym (take_more es k 0 lt)) h
+  at_next there h = rw (take_more es k 0 lt) h
 
 -- the edges are a simple journey where they lead to the destination in time
 module _ (m : Meaning) (q : Question) (es : List ℕ) where

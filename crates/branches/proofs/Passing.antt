@@ -1,5 +1,5 @@
 -- From place to place: what an offer makes of the best journey, along an entry, and from entry to entry.
-use Rattle.std.proofs.Common.{◌≡◌, ℕ, ◌+◌, ◌<◌, ◌≤◌, ◌⊎◌, List, [], ◌∷◌, ◌++◌, length, get_or, take, drop, Some, None, Option, sym, refl, ap, ◌∙◌, subst, inl, inr, arith}
+use Rattle.std.proofs.Common.{◌≡◌, ℕ, ◌+◌, ◌<◌, ◌≤◌, ◌⊎◌, List, [], ◌∷◌, ◌++◌, length, get_or, take, drop, Some, None, Option, sym, refl, ap, ◌∙◌, inl, inr, arith}
 use native.Mathlib.Decide.{dec_lt}
 use Rattle.std.specs.Option.{option_map_or}
 use Rattle.networks.specs.Networks.{Meaning}
@@ -66,12 +66,9 @@ module _ (m : Meaning) (q : Question) (ys : List (List ℕ)) where
     branched k a b c x z = then (Beginning y k) (λ p. p ≡ take k y) (Beginning y (k + 1)) a b c x z (one_further k)
 
     pub place_at : (k : ℕ) → In y ys → k < length y → Place (λ z. In z ys) (take k y)
-    place_at k h lt = inr (get_or y k 0, (drop (k + 1) y, subst (λ (z : List ℕ). In z ys) (sym (whole m q y k lt)) h))
+    place_at k h lt = inr (get_or y k 0, (drop (k + 1) y, rw (whole m q y k lt) h))
 
   -- from entry to entry
-  pub first_entry : (a b : Option Journey) → Progress m q ys (λ p. p ≡ []) a b → Progress m q ys (Place (λ z. In z [])) a b
-  first_entry a b x = record { unlisted = x.unlisted; beats = λ p h. elim h [ inl e ↦ x.beats p e | inr (g, (r, k)) ↦ absurd k ]; keeps = x.keeps }
-
   pub next_entry : (es : List Entry) (i : ℕ) (e : Entry) (a b c : Option Journey) → i < length es → e ≡ get_or es i e → Progress m q ys (Place (λ z. In z (all_edges (take i es)))) a b →
       Progress m q ys (Beginning (edges_of e) (length (edges_of e))) b c → Progress m q ys (Place (λ z. In z (all_edges (take (i + 1) es)))) a c
   next_entry es i e a b c lt is x y = then (Place (λ z. In z (all_edges (take i es)))) (Beginning (edges_of e) (length (edges_of e))) (Place (λ z. In z (all_edges (take (i + 1) es)))) a b c x y at

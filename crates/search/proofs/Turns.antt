@@ -1,5 +1,5 @@
 -- One turn more of a run.
-use Rattle.std.proofs.Common.{◌≡◌, ℕ, zero, suc, ◌+◌, ◌<◌, ◌≤◌, ◌⊎◌, List, [], ◌∷◌, ◌++◌, length, get_or, take, set, Ok, Err, Result, IsErr, IfOk, sym, refl, ap, ◌∙◌, subst, inl, inr, append_assoc, append-nil, add-one, arith}
+use Rattle.std.proofs.Common.{◌≡◌, ℕ, zero, suc, ◌+◌, ◌<◌, ◌≤◌, ◌⊎◌, List, [], ◌∷◌, ◌++◌, length, get_or, take, set, Ok, Err, Result, IsErr, IfOk, sym, refl, ap, ◌∙◌, subst, subst₂, inl, inr, append_assoc, append-nil, add-one, arith}
 use Rattle.std.specs.Result.{IsErrAnd}
 use Rattle.std.proofs.lemmas.Bool.{cases_lt}
 use Rattle.networks.specs.Networks.{Meaning}
@@ -15,7 +15,7 @@ use Rattle.entries.specs.declared.entry.Journey.{Journey}
 use Rattle.entries.specs.Listing.{listed, given_of}
 use Rattle.search.specs.Reasons.{AgainstStrike}
 use Rattle.search.specs.Calls.{told_journey}
-use Rattle.search.specs.Sounds.{Ordered, Sound}
+use Rattle.search.specs.Sounds.{Sound}
 use Rattle.search.specs.Runs.{Ask, Said, Turn, asked, turns, gives, given_by, Strikes, Lists, Right, LawAfter, Law, strike}
 use Rattle.search.specs.Turning.{Entered, Ran}
 use Rattle.search.specs.declared.calls.Call.{Call}
@@ -40,7 +40,7 @@ module _ (m : Meaning) (q : Question) where
     kept = record {
       right = r;
       lists = l;
-      ordered = subst (λ (z : List Journey). Ordered m q z (listed old ++ more)) f (subst (λ (z : List (List ℕ)). Ordered m q (given_of new) z) e s.ordered);
+      ordered = rw (← e, ← f) s.ordered;
     };
     lists = e;
     gave = f;
@@ -74,30 +74,19 @@ module _ (m : Meaning) (q : Question) where
       room : length (listed old) < 16
       room = elim (cases_lt (length (listed old)) 16) [ inl l ↦ l | inr l ↦ absurd (v TooManyEntries l) ]
 
-  pub ran_none : (old : Entries) → Ran m q old [] old
-  ran_none old = record { law = λ rest h. h; gave = sym (append-nil (given_of old)) }
-
   given_last : (ts : List Turn) (t : Turn) → given_by (ts ++ (t ∷ [])) ≡ given_by ts ++ gives t.ask t.said
   given_last [] t = append-nil (gives t.ask t.said)
   given_last (x ∷ ts) t = ap (λ (z : List Journey). gives x.ask x.said ++ z) (given_last ts t) ∙ sym (append_assoc (gives x.ask x.said) (given_by ts) (gives t.ask t.said))
 
   pub ran_more : (old now new : Entries) (ts : List Turn) (t : Turn) → Ran m q old ts now → Entered m q now t.ask t.said new → Ran m q old (ts ++ (t ∷ [])) new
   ran_more old now new ts t r e = record {
-    law = λ rest h.
-        subst (λ (z : List Turn). LawAfter m q (given_of old) (listed old) z) (sym (append_assoc ts (t ∷ []) rest))
-        (r.law (t ∷ rest)
-        (e.more, e.kept, subst (λ (z : List Journey). LawAfter m q z (listed now ++ e.more) rest) e.gave (subst (λ (z : List (List ℕ)). LawAfter m q (given_of new) z rest) e.lists h)));
+    law = λ rest h. rw append_assoc (r.law (t ∷ rest) (e.more, e.kept, rw (← e.gave, ← e.lists) h));
     gave = e.gave ∙ ap (λ (z : List Journey). z ++ gives t.ask t.said) r.gave ∙ append_assoc (given_of old) (given_by ts) (gives t.ask t.said) ∙ ap (λ (z : List Journey). given_of old ++ z) (sym (given_last ts t));
   }
 
   -- a whole run from a search just opened
   pub whole_law : (old new : Entries) (ts : List Turn) → listed old ≡ [] → given_of old ≡ [] → Ran m q old ts new → Law m q ts
-  whole_law old new ts e f r =
-      subst (λ (z : List Journey). LawAfter m q z [] ts) f
-      (subst (λ (z : List (List ℕ)). LawAfter m q (given_of old) z ts) e (subst (λ (z : List Turn). LawAfter m q (given_of old) (listed old) z) (append-nil ts) (r.law [] tt)))
-
-  pub whole_given : (old new : Entries) (ts : List Turn) → given_of old ≡ [] → Ran m q old ts new → given_of new ≡ given_by ts
-  whole_given old new ts f r = r.gave ∙ ap (λ (z : List Journey). z ++ given_by ts) f
+  whole_law old new ts e f r = subst₂ (λ (js : List Journey) (ys : List (List ℕ)). LawAfter m q js ys ts) f e (rw append-nil at (r.law [] tt))
 
 -- the turns, call by call
 turns_suc : (cs : List Call) (xs : List Said) (k : ℕ) (c : Call) (x : Said) → k < length cs → k < length xs →
@@ -109,7 +98,7 @@ turns_suc (d ∷ cs) (y ∷ xs) (suc k) c x l n = ap (λ (z : List Turn). record
 
 pub turns_more : (cs : List Call) (xs : List Said) (k : ℕ) (c : Call) (x : Said) → k < length cs → k < length xs →
     turns (take (k + 1) cs) (take (k + 1) (set xs k x)) ≡ turns (take k cs) (take k xs) ++ (record { ask = asked (get_or cs k c); said = x } ∷ [])
-turns_more cs xs k c x l n = subst (λ (j : ℕ). turns (take j cs) (take j (set xs k x)) ≡ turns (take k cs) (take k xs) ++ (record { ask = asked (get_or cs k c); said = x } ∷ [])) (sym (add-one k)) (turns_suc cs xs k c x l n)
+turns_more cs xs k c x l n = rw add-one (turns_suc cs xs k c x l n)
 
 pub turns_all : (cs : List Call) (xs : List Said) (k : ℕ) → (length cs ≤ k) ⊎ (length xs ≤ k) → turns (take k cs) (take k xs) ≡ turns cs xs
 turns_all [] xs zero h = refl

@@ -1,7 +1,5 @@
-use Rattle.std.proofs.Common.{Ok, Err, [], ◌∷◌, refl, subst, inr}
-use Rattle.journeys.specs.declared.question.Question.{Question}
+use Rattle.std.proofs.Common.{Ok, Err, [], ◌∷◌, refl, inr}
 use Rattle.entries.specs.Listing.{listed}
-use Rattle.search.specs.Sounds.{Sound}
 use Rattle.search.specs.Calls.{told_journey}
 use Rattle.search.specs.Runs.{next, again, strike}
 use Rattle.search.specs.declared.calls.Reply.TheVariants.{Gave}
@@ -42,7 +40,7 @@ returns-in-Strike-clause-turn g c =
     let mean = g.N.Network.meaning in
     rw c.in-Strike.is
     (struck_turn (mean s.network) s.question s.entries new.entries c.in-Strike.edges.now h.answer h.refusal h.after.0 h.after.1
-    (subst (λ (z : Question). Sound (mean s.network) z new.entries) h.same.1 (subst (λ n. Sound (mean n) new.question new.entries) h.same.0 new.sound)))
+    (rw (← h.same.0, ← h.same.1) new.sound))
 
 pub returns-clause-turn : goal.returns-clause-turn
 returns-clause-turn g c =
@@ -56,7 +54,7 @@ returns-clause-turn g c =
           let j = told_journey w.next.new.buffer (w.in_ok-next-in-Next.arrival, w.in_ok-next-in-Next.count) in
           rw (w.in-Next.is, told, w.buffer-is, w.arrival-is, w.search-is)
           (entered (mean s.network) s.question s.entries new.entries next (Ok (Gave j)) (j.edges.items ∷ []) (h.answer, h.refusal) refl h.after.0 h.after.1
-          (subst (λ (z : Question). Sound (mean s.network) z new.entries) h.same.1 (subst (λ n. Sound (mean n) new.question new.entries) h.same.0 new.sound)))
+          (rw (← h.same.0, ← h.same.1) new.sound))
       | in-Again+in_ok-arrival-in-Again w ↦
           let h = w.in_ok-arrival-in-Again.ensures in
           let j = told_journey w.again.new.buffer (w.in_ok-arrival-in-Again.arrival, w.in_ok-arrival-in-Again.count) in

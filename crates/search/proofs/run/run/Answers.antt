@@ -1,6 +1,4 @@
-use Rattle.std.proofs.Common.{subst}
-use Rattle.journeys.specs.declared.question.Question.{Question}
-use Rattle.search.specs.Runs.{turns, Law}
+use Rattle.search.specs.Runs.{turns}
 use Rattle.search.proofs.Turns.{whole_law}
 use Rattle.search.proofs.run.run.Goals as goal
 
@@ -10,5 +8,4 @@ returns-clause-law g c =
     let s = c.send_all in
     let mean = g.N.Network.meaning in
     let ts = turns c.args.calls.now s.new.answers in
-    subst (λ (q : Question). Law (mean c.args.network) q ts) z.ensures.answer.1
-    (subst (λ n. Law (mean n) z.result.question ts) z.ensures.answer.0 (whole_law (mean z.result.network) z.result.question z.result.entries s.new.search.entries ts z.ensures.listed z.ensures.given s.ensures.ran))
+    rw (← z.ensures.answer.0, ← z.ensures.answer.1) (whole_law (mean z.result.network) z.result.question z.result.entries s.new.search.entries ts z.ensures.listed z.ensures.given s.ensures.ran)

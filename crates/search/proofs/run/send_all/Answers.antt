@@ -1,9 +1,8 @@
 use Rattle.std.proofs.Common.{◌≡◌, ◌<◌, List, length, get_or, take, sym, ◌∙◌, subst, inl, inr, arith, drop-set-lt, get_or-take}
 use Rattle.std.proofs.lemmas.Bool.{cases_lt}
 use Rattle.std.proofs.lemmas.List.{length-take-le}
-use Rattle.journeys.specs.declared.question.Question.{Question}
 use Rattle.search.specs.Runs.{Turn, asked, turns}
-use Rattle.search.specs.Turning.{Entered, Ran}
+use Rattle.search.specs.Turning.{Ran}
 use Rattle.search.specs.declared.calls.Call.TheVariants.{Next}
 use Rattle.search.proofs.Turns.{ran_more, turns_more, turns_all}
 use Rattle.search.proofs.run.send_all.Goals as goal
@@ -24,8 +23,7 @@ loop-k-preserved g c =
       ran =
           subst (λ (ts : List Turn). Ran (mean z.network) z.question z.entries ts c.answer.new.search.entries) (sym (turns_more calls xs k Next c.answer.result (omega arith) (omega arith)))
           (ran_more (mean z.network) z.question z.entries c.loop-k.search.entries c.answer.new.search.entries (turns (take k calls) (take k xs)) (record { ask = asked (get_or calls k Next); said = c.answer.result }) inv.ran
-          (subst (λ (q : Question). Entered (mean z.network) q c.loop-k.search.entries (asked (get_or calls k Next)) c.answer.result c.answer.new.search.entries) inv.same.1
-          (subst (λ n. Entered (mean n) c.loop-k.search.question c.loop-k.search.entries (asked (get_or calls k Next)) c.answer.result c.answer.new.search.entries) inv.same.0 (rw (get_or-take c.min-count.result calls k Next here) at t))));
+          (rw (← inv.same.0, ← inv.same.1) (rw (get_or-take c.min-count.result calls k Next here) at t)));
       rest = λ j l. drop-set-lt j xs k c.answer.result (omega arith) ∙ inv.rest j (omega arith);
     }
 
