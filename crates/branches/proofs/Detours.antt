@@ -24,7 +24,7 @@ use Rattle.detour.specs.Detours.{Reason}
 use Rattle.entries.specs.declared.entry.Journey.{Journey}
 use Rattle.branches.specs.declared.position.Position.{Position}
 use Rattle.branches.specs.Following.{At}
-use Rattle.branches.specs.Bests.{Leaves}
+use Rattle.branches.specs.Bests.{FirstLeaving}
 
 -- who travels arrives no earlier
 later : (m : Meaning) → Lawful m → (S : ℕ → Type 0) (u t d a : ℕ) (es : List ℕ) → Way m S u t d a es → t ≤ a
@@ -95,7 +95,7 @@ module _ (m : Meaning) (law : Lawful m) (q : Question) (ys : List (List ℕ)) (s
   none_out InstantsUnfit (inr h) a r j = let l = q.by_day_end in omega arith
   none_out NoDetour n a r j = n a r ((detour_onward m (Holds here.behind) (λ e. In e barred) here.stop here.instant q.destination by a r).1 j)
 
-  pub none_leaves : (f : DetourRefusal) → Reason m (Holds here.behind) (λ e. In e barred) here.stop here.instant q.destination by f → Leaves m q ys p by None
+  pub none_leaves : (f : DetourRefusal) → Reason m (Holds here.behind) (λ e. In e barred) here.stop here.instant q.destination by f → FirstLeaving m q ys p by None
   none_leaves f h a r j = not_by (cases_lt by a)
     where
       not_by : (by < a) ⊎ (a ≤ by) → by < a
@@ -116,9 +116,9 @@ module _ (m : Meaning) (law : Lawful m) (q : Question) (ys : List (List ℕ)) (s
         let l = length-append p r in
         omega arith
 
-    one_leaves : (x : Journey) → x.arrival ≡ a → x.edges.items ≡ p ++ r → Leaves m q ys p by (Some x)
+    one_leaves : (x : Journey) → x.arrival ≡ a → x.edges.items ≡ p ++ r → FirstLeaving m q ys p by (Some x)
     one_leaves x e₁ e₂ = rw (e₁, e₂) (to_unlisted a r first_here.member, λ b es n. place_beaten m ys q.origin q.start q.destination q.latest b es p at.behind here.stop here.instant at.through a r first_here n)
 
-    pub joined_leaves : {E : Type 0} (x : Result Journey E) → IfOk x (λ j. (j.arrival ≡ a) × (j.edges.items ≡ p ++ r)) → IsOk x ↔ (length p + length r ≤ 255) → Leaves m q ys p by (result_ok x)
+    pub joined_leaves : {E : Type 0} (x : Result Journey E) → IfOk x (λ j. (j.arrival ≡ a) × (j.edges.items ≡ p ++ r)) → IsOk x ↔ (length p + length r ≤ 255) → FirstLeaving m q ys p by (result_ok x)
     joined_leaves (Ok x) h v = one_leaves x h.0 h.1
     joined_leaves (Err e) h v = absurd (cc (v.1 fits))

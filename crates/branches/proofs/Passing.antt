@@ -14,7 +14,7 @@ use Rattle.entries.specs.declared.entry.Entry.{Entry}
 use Rattle.entries.specs.declared.entry.Journey.{Journey}
 use Rattle.entries.specs.Listing.{edges_of, all_edges}
 use Rattle.entries.proofs.Listed.{in_more}
-use Rattle.branches.specs.Bests.{Offered, Leaves, Unsurpassed, Beats, Progress, Beginning, First}
+use Rattle.branches.specs.Bests.{Offered, FirstLeaving, Unsurpassed, Beats, Progress, Beginning, First}
 use Rattle.branches.proofs.Advancing.{whole}
 use Rattle.branches.proofs.Detours.{before_le}
 
@@ -24,14 +24,14 @@ module _ (m : Meaning) (q : Question) (ys : List (List ℕ)) where
   until_le None f = omega arith
   until_le (Some x) f = let l = f.simple.in_time in omega arith
 
-  pub none_left : (p : List ℕ) (best : Option Journey) → Leaves m q ys p (option_map_or (λ j. j.arrival) best q.latest) None → Unsurpassed m q ys best → Progress m q ys (λ x. x ≡ p) best best
+  pub none_left : (p : List ℕ) (best : Option Journey) → FirstLeaving m q ys p (option_map_or (λ j. j.arrival) best q.latest) None → Unsurpassed m q ys best → Progress m q ys (λ x. x ≡ p) best best
   none_left p best h u = record { unlisted = u; beats = λ x e. rw e (on best h); keeps = λ x k. k }
     where
-      on : (o : Option Journey) → Leaves m q ys p (option_map_or (λ j. j.arrival) o q.latest) None → Beats m q ys p o
+      on : (o : Option Journey) → FirstLeaving m q ys p (option_map_or (λ j. j.arrival) o q.latest) None → Beats m q ys p o
       on None h = λ a r j. let l = h a r j in let k = j.onward.in_time in omega arith
       on (Some x) h = λ a r j k. let l = h a r j in let n = before_le a x.arrival (p ++ r) x.edges.items k in omega arith
 
-  pub one_left : (p : List ℕ) (by : ℕ) (x : Journey) (best : Option Journey) (new : Journey) → Leaves m q ys p by (Some x) → Offered x best new → Unsurpassed m q ys best →
+  pub one_left : (p : List ℕ) (by : ℕ) (x : Journey) (best : Option Journey) (new : Journey) → FirstLeaving m q ys p by (Some x) → Offered x best new → Unsurpassed m q ys best →
       Progress m q ys (λ z. z ≡ p) best (Some new)
   one_left p by x None new (l, b) e u =
       rw e (record { unlisted = l; beats = λ z h. rw h (b x.arrival x.edges.items (before_irrefl x.arrival x.edges.items)); keeps = λ z h a r j k. h a r j })

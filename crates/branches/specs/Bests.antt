@@ -15,10 +15,10 @@ Offered x (Some y) new =
     ((new ≡ x) × ((b : ℕ) (es : List ℕ) → Before b es x.arrival x.edges.items → Before b es y.arrival y.edges.items))
     ⊎ ((new ≡ y) × ¬ Before x.arrival x.edges.items y.arrival y.edges.items)
 
--- an unlisted journey x that ranks before all before which one ranks that leaves the entries after p; or that none such arrives by an instant
-abbrev pub Leaves : Meaning → Question → List (List ℕ) → List ℕ → ℕ → Option Journey → Type 0
-Leaves m q ys p by None = (a : ℕ) (r : List ℕ) → Branches m q ys p a r → by < a
-Leaves m q ys p by (Some x) =
+-- an unlisted journey x, such that nothing that leaves the entries after p ranks before what x does not rank before; or that nothing that leaves them there arrives by an instant
+abbrev pub FirstLeaving : Meaning → Question → List (List ℕ) → List ℕ → ℕ → Option Journey → Type 0
+FirstLeaving m q ys p by None = (a : ℕ) (r : List ℕ) → Branches m q ys p a r → by < a
+FirstLeaving m q ys p by (Some x) =
     Unlisted m q ys x.arrival x.edges.items
     × ((b : ℕ) (es : List ℕ) → ¬ Before x.arrival x.edges.items b es → (a : ℕ) (r : List ℕ) → Branches m q ys p a r → ¬ Before a (p ++ r) b es)
 

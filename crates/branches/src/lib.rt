@@ -8,7 +8,7 @@ ghost use Rattle.journey_laws.specs.Branching.{Place};
 ghost use Rattle.journey_laws.specs.Theorems.{SimpleEntries};
 ghost use Rattle.entries.specs.Listing.{all_edges, listed};
 ghost use Rattle.branches.specs.Following.{At};
-ghost use Rattle.branches.specs.Bests.{Offered, Surpasses, Beginning, Leaves, Improves, First};
+ghost use Rattle.branches.specs.Bests.{Offered, Surpasses, Beginning, FirstLeaving, Improves, First};
 
 use detour::detour;
 use entries::entry::{Entries, Entry, Journey};
@@ -54,11 +54,11 @@ struct Branching<'a, N: Network> {
 
 impl<N: Network> Branching<'_, N> {
     // The first journey that leaves the entries after a beginning, which leads to a position, if one arrives by an instant.
-    fn leave(&self, beginning: &[u16], position: Position, by: u32) -> Option<Journey>
+    fn first_leaving(&self, beginning: &[u16], position: Position, by: u32) -> Option<Journey>
         requires here { At (N.Network.meaning self.now.network.now) self.now.question.now beginning.now position }
         requires place { Place (λ y. In y (listed self.now.entries.now)) beginning.now }
         ensures { SimpleEntries (N.Network.meaning self.now.network.now) self.now.question.now (listed self.now.entries.now) → by ≤ self.now.question.now.latest →
-            Leaves (N.Network.meaning self.now.network.now) self.now.question.now (listed self.now.entries.now) beginning.now by result }
+            FirstLeaving (N.Network.meaning self.now.network.now) self.now.question.now (listed self.now.entries.now) beginning.now by result }
     {
         let barred = self.entries.next_edges(beginning);
         let mut shut = position.behind;
@@ -89,7 +89,7 @@ impl<N: Network> Branching<'_, N> {
         requires place { Place (λ y. In y (listed self.now.entries.now)) beginning.now }
         ensures { Improves (N.Network.meaning self.now.network.now) self.now.question.now (listed self.now.entries.now) (λ p. p ≡ beginning.now) best result }
     {
-        match self.leave(beginning, position, until(self.question, &best)) {
+        match self.first_leaving(beginning, position, until(self.question, &best)) {
             Some(journey) => Some(offer(best, journey)),
             None => best,
         }

@@ -1,7 +1,7 @@
 use Rattle.std.proofs.Common.{take}
 use Rattle.entries.specs.Listing.{listed}
 use Rattle.branches.proofs.Detours.{none_leaves, joined_leaves}
-use Rattle.branches.proofs.Branching.leave.Goals as goal
+use Rattle.branches.proofs.Branching.first_leaving.Goals as goal
 
 pub returns-in_default : goal.returns-in_default
 returns-in_default g c = λ s le.
