@@ -1,5 +1,4 @@
-pub mod Ranking
+pub mod Advancing
 pub mod Offering
-pub mod Branching
+pub mod Detours
 pub mod Passing
-pub mod Following

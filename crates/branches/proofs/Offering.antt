@@ -1,48 +1,55 @@
--- The copies of edges, and what an offer makes of the best journey.
-use Rattle.std.proofs.Common.{◌≡◌, ℕ, ◌+◌, ◌-◌, ◌≤◌, true, false, List, ◌++◌, length, take, drop, Some, None, Option, sym, refl, ap, ◌∙◌, subst, inl, inr, append_assoc, arith, length-append}
-use borrow.Rule.Slice.PartMut.{put_mid}
-use Rattle.std.proofs.lemmas.List.{drop-drop, take_at, drop_at, length-take-le}
-use Rattle.std.proofs.lemmas.Bool.{both_ways}
-use Rattle.branches.specs.Bests.{Journey, Goes, Offered}
+-- What ranks before the lesser of two journeys in the order of arrivals and then of edges.
+use Rattle.std.proofs.Common.{◌≡◌, ℕ, ◌<◌, Bool, true, false, ◌⊎◌, List, [], ◌∷◌, cond, refl, ◌∙◌, inl, inr, Some, arith}
+use Rattle.std.specs.Ordering.{is_lt, nat_cmp, ordering_then, MatchOrdering}
+use Rattle.std.specs.declared.cmp.Ordering.{Ordering}
+use Rattle.std.specs.declared.cmp.Ordering.TheVariants.{Less, Equal, Greater}
+use Rattle.std.specs.Cmp.{ranked}
+use Rattle.std.specs.Cmp.Lexicographic.{slice_cmp}
+use Rattle.journeys.specs.Rank.{Smaller}
+use Rattle.entries.specs.declared.entry.Journey.{Journey}
+use Rattle.branches.specs.Bests.{Offered}
 
-pub put_is : (a n : ℕ) (xs ys zs : List ℕ) → ys ≡ zs → put_mid a ((a + n) - a) xs ys ≡ take a xs ++ (zs ++ drop (a + n) xs)
-put_is a n xs ys zs e =
-    let k : (a + n) - a ≡ n = omega arith in
-    rw (k, e, drop-drop)
+-- numbers, and then something else
+below_first : (z x y : ℕ) (o : Ordering) (S T : Type 0) → (is_lt o ≡ true → S → T) → is_lt (ordering_then (nat_cmp x y) o) ≡ true → (z < x) ⊎ ((z ≡ x) × S) → (z < y) ⊎ ((z ≡ y) × T)
+below_first z x y o S T f = at (nat_cmp x y) (ranked x y (nat_cmp x y) refl)
+  where
+    at : (r : Ordering) → MatchOrdering r (x < y) (x ≡ y) (y < x) → is_lt (ordering_then r o) ≡ true → (z < x) ⊎ ((z ≡ x) × S) → (z < y) ⊎ ((z ≡ y) × T)
+    at Less m h (inl l) = inl (omega arith)
+    at Less m h (inr (e, l)) = inl (omega arith)
+    at Equal m h (inl l) = inl (omega arith)
+    at Equal m h (inr (e, l)) = inr (e ∙ m, f h l)
+    at Greater m h k = absurd (cc h)
 
--- two copies, one after the other
-two_put : (o o₁ o₂ p r : List ℕ) → o₁ ≡ take 0 o ++ (p ++ drop (0 + length p) o) → o₂ ≡ take (length p) o₁ ++ (r ++ drop (length p + length r) o₁) →
-    take (length p + length r) o₂ ≡ p ++ r
-two_put o o₁ o₂ p r e₁ e₂ =
-    let f : take (length p) o₁ ≡ p = ap (λ (z : List ℕ). take (length p) z) e₁ ∙ take_at p (drop (0 + length p) o) (length p) refl in
-    let g : o₂ ≡ (p ++ r) ++ drop (length p + length r) o₁ = e₂ ∙ ap (λ (z : List ℕ). z ++ (r ++ drop (length p + length r) o₁)) f ∙ sym (append_assoc p r (drop (length p + length r) o₁)) in
-    ap (λ (z : List ℕ). take (length p + length r) z) g ∙ take_at (p ++ r) (drop (length p + length r) o₁) (length p + length r) (length-append p r)
+not_first : (x y : ℕ) (o : Ordering) (S : Type 0) → (is_lt o ≡ false → ¬ S) → is_lt (ordering_then (nat_cmp x y) o) ≡ false → ¬ ((x < y) ⊎ ((x ≡ y) × S))
+not_first x y o S f = at (nat_cmp x y) (ranked x y (nat_cmp x y) refl)
+  where
+    at : (r : Ordering) → MatchOrdering r (x < y) (x ≡ y) (y < x) → is_lt (ordering_then r o) ≡ false → ¬ ((x < y) ⊎ ((x ≡ y) × S))
+    at Less m h k = absurd (cc h)
+    at Equal m h (inl l) = omega arith
+    at Equal m h (inr (e, l)) = f h l
+    at Greater m h (inl l) = omega arith
+    at Greater m h (inr (e, l)) = omega arith
 
-goes_yes : (x : Journey) (old : Option Journey) → Goes x old true → Offered x old (Some x)
-goes_yes x None h = refl
-goes_yes x (Some y) h = inl (h, refl)
+-- what is smaller than the lesser list is smaller than the other
+below_less : (zs xs ys : List ℕ) → is_lt (slice_cmp nat_cmp xs ys) ≡ true → Smaller zs xs → Smaller zs ys
+below_less [] xs ys h k = k
+below_less (z ∷ zs) [] ys h k = absurd k
+below_less (z ∷ zs) (x ∷ xs) [] h k = absurd (cc h)
+below_less (z ∷ zs) (x ∷ xs) (y ∷ ys) h k = below_first z x y (slice_cmp nat_cmp xs ys) (Smaller zs xs) (Smaller zs ys) (below_less zs xs ys) h k
 
-goes_no : (x : Journey) (old : Option Journey) → Goes x old false → Offered x old old
-goes_no x None h = absurd (both_ways false refl h)
-goes_no x (Some y) h = inr (h, refl)
+not_smaller : (xs ys : List ℕ) → is_lt (slice_cmp nat_cmp xs ys) ≡ false → ¬ Smaller xs ys
+not_smaller [] ys h k = k
+not_smaller (x ∷ xs) [] h k = k
+not_smaller (x ∷ xs) (y ∷ ys) h k = not_first x y (slice_cmp nat_cmp xs ys) (Smaller xs ys) (not_smaller xs ys) h k
 
-module _ (a : ℕ) (p r o o₁ o₂ : List ℕ) (old : Option Journey) (e₁ : o₁ ≡ take 0 o ++ (p ++ drop (0 + length p) o)) (e₂ : o₂ ≡ take (length p) o₁ ++ (r ++ drop (length p + length r) o₁)) where
-  front : take ((length p + length r) - 0) o₂ ≡ p ++ r
-  front = ap (λ (k : ℕ). take k o₂) (omega arith) ∙ two_put o o₁ o₂ p r e₁ e₂
+-- the lesser of two journeys is kept
+module _ (x y : Journey) where
+  abbrev before : Bool
+  before = is_lt (ordering_then (nat_cmp x.arrival y.arrival) (slice_cmp nat_cmp x.edges.items y.edges.items))
 
-  pub kept_yes : Goes (a, take ((length p + length r) - 0) o₂) old true → Offered (a, p ++ r) old (Some (a, take (length p + length r) o₂))
-  kept_yes h =
-      subst (λ (z : List ℕ). Offered (a, p ++ r) old (Some (a, z))) (sym (two_put o o₁ o₂ p r e₁ e₂))
-      (goes_yes (a, p ++ r) old (subst (λ (z : List ℕ). Goes (a, z) old true) front h))
+  kept : (b : Bool) → before ≡ b → Offered x (Some y) (cond b x y)
+  kept true h = inl (refl, λ b es. below_first b x.arrival y.arrival _ _ _ (below_less es x.edges.items y.edges.items) h)
+  kept false h = inr (refl, not_first x.arrival y.arrival _ _ (not_smaller x.edges.items y.edges.items) h)
 
-  pub kept_no : Goes (a, take ((length p + length r) - 0) o₂) old false → Offered (a, p ++ r) old old
-  kept_no h = goes_no (a, p ++ r) old (subst (λ (z : List ℕ). Goes (a, z) old false) front h)
-
--- the copy at the end
-pub copied_out : (n : ℕ) (edges old new : List ℕ) → n ≤ length edges → new ≡ take 0 old ++ (take (n - 0) edges ++ drop (0 + length (take (n - 0) edges)) old) →
-    (take n new ≡ take n edges) × (drop n new ≡ drop n old)
-copied_out n edges old new le e =
-    let f : take (n - 0) edges ≡ take n edges = ap (λ (k : ℕ). take k edges) (omega arith) in
-    let l : length (take n edges) ≡ n = length-take-le n edges le in
-    let g : new ≡ take n edges ++ drop n old = e ∙ ap (λ (z : List ℕ). z ++ drop (0 + length z) old) f ∙ ap (λ (k : ℕ). take n edges ++ drop k old) (omega arith) in
-    (ap (λ (z : List ℕ). take n z) g ∙ take_at (take n edges) (drop n old) n l, ap (λ (z : List ℕ). drop n z) g ∙ drop_at (take n edges) (drop n old) n l)
+  pub lesser_kept : Offered x (Some y) (cond before x y)
+  lesser_kept = kept before refl

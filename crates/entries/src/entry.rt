@@ -1,39 +1,65 @@
-// A journey that was given or struck, and the list of them.
-ghost use Rattle.std.specs.Prelude.{◌≡◌, ◌≤◌, false, length, replicate};
+// A journey, an entry of a search, and the list of the entries.
+ghost use Rattle.std.specs.Prelude.{◌≡◌, ◌+◌, ◌≤◌, ◌↔◌, ◌++◌, length, take, drop, IsOk, IfOk};
 
-// A journey with its arrival; it was given, or else struck.
-#[derive(Clone, Copy)]
-pub struct Entry {
-    pub edges: [u16; 255],
-    pub count: usize,
+use arrayvec::{ArrayVec, CapacityError};
+
+// The arrival of a journey, and its edges, which are at most 255. They compare in this order: simple journeys by rank.
+#[derive(Clone, Drop, Default, PartialEq, Eq, PartialOrd, Ord)]
+pub struct Journey {
     pub arrival: u32,
-    pub given: bool,
-    ghost few: { count ≤ 255 },
-    ghost whole: { length edges ≡ 255 },
+    pub edges: ArrayVec<u16, 255>,
 }
 
-impl Entry {
-    // What stands in the places behind the entries: a struck journey of no edges.
-    pub(crate) fn unused() -> Entry
-        ensures edges { result.edges ≡ replicate 255 0 }
-        ensures count { result.count ≡ 0 }
-        ensures arrival { result.arrival ≡ 0 }
-        ensures given { result.given ≡ false }
+impl Journey {
+    // The journey of the edges, unless they are more than 255.
+    pub fn new(arrival: u32, edges: &[u16]) -> Result<Journey, CapacityError>
+        ensures ok { IfOk result (λ j. (j.arrival ≡ arrival) × (j.edges.items ≡ edges.now)) }
+        ensures variant { IsOk result ↔ (length edges.now ≤ 255) }
     {
-        Entry {
-            edges: [0; 255],
-            count: 0,
-            arrival: 0,
-            given: false,
-        }
+        let edges = ArrayVec::try_from(edges)?;
+        Ok(Journey { arrival, edges })
+    }
+
+    // The journey of a beginning and the edges that follow it, unless they are more than 255.
+    pub fn joined(arrival: u32, beginning: &[u16], onward: &[u16]) -> Result<Journey, CapacityError>
+        ensures ok { IfOk result (λ j. (j.arrival ≡ arrival) × (j.edges.items ≡ beginning.now ++ onward.now)) }
+        ensures variant { IsOk result ↔ (length beginning.now + length onward.now ≤ 255) }
+    {
+        let mut journey = Journey::new(arrival, beginning)?;
+        journey.edges.try_extend_from_slice(onward)?;
+        Ok(journey)
+    }
+
+    // Tells the arrival and how many edges there are. They are written at the buffer's front.
+    pub fn write_to(&self, buffer: &mut [u16; 255]) -> (u32, usize)
+        ensures arrival { result.0 ≡ self.now.arrival }
+        ensures edges { take result.1 buffer.new ≡ self.now.edges.items }
+        ensures few { result.1 ≤ 255 }
+        ensures rest { drop result.1 buffer.new ≡ drop result.1 buffer.old }
+    {
+        let edges = self.edges.as_slice();
+        buffer[..edges.len()].copy_from_slice(edges);
+        (self.arrival, edges.len())
     }
 }
 
-// The entries stand at the front of the list, in the order in which they came.
-#[derive(Clone, Copy)]
+// How a journey came to be an entry.
+#[derive(Clone, Copy, PartialEq, Eq, Default)]
+pub enum Standing {
+    Given,
+    #[default]
+    Struck,
+}
+
+// A journey that was given or struck. A place of the list with no entry holds the default one.
+#[derive(Clone, Drop, Default)]
+pub struct Entry {
+    pub standing: Standing,
+    pub journey: Journey,
+}
+
+// The entries of a search, in the order in which they came; there are at most sixteen.
+#[derive(Clone, Drop)]
 pub struct Entries {
-    pub list: [Entry; 16],
-    pub count: usize,
-    ghost few: { count ≤ 16 },
-    ghost whole: { length list ≡ 16 },
+    pub list: ArrayVec<Entry, 16>,
 }

@@ -1,11 +1,12 @@
 // The entries of a search: the journeys that were given or struck, and by which edges they go on.
 #![tactic(auto)]
 
-ghost use Rattle.std.specs.Prelude.{◌≡◌, ℕ, ◌<◌, ◌≤◌, ◌↔◌, [], length, take, IsTrue};
+ghost use Rattle.std.specs.Prelude.{◌≡◌, ℕ, ◌≤◌, ◌↔◌, [], length, IsTrue};
 ghost use Rattle.journeys.specs.Journeys.{In};
 ghost use Rattle.journey_laws.specs.Branching.{NextEdge};
-ghost use Rattle.entries.specs.Listing.{all_edges, listed, given_of, GoesOn, Starts, Lists, GoOn};
+ghost use Rattle.entries.specs.Listing.{edges_of, all_edges, listed, given_of, next_after};
 
+use arrayvec::ArrayVec;
 use entry::{Entries, Entry};
 
 pub mod entry;
@@ -17,91 +18,57 @@ impl Entries {
         ensures given { given_of result ≡ [] }
     {
         Entries {
-            list: [Entry::unused(); 16],
-            count: 0,
+            list: ArrayVec::new(),
         }
     }
 
     // Whether there is no place for another entry.
-    #[tactic(auto, using(crate::proofs::Listed::counted))]
     pub fn is_full(&self) -> bool
         ensures { IsTrue result ↔ (16 ≤ length (listed self.now)) }
     {
-        self.count >= 16
+        self.list.is_full()
     }
 
     // Whether the edges are those of an entry.
     pub fn contains(&self, edges: &[u16]) -> bool
-        ensures { Lists (listed self.now) edges.now result }
+        ensures { IsTrue result ↔ In edges.now (listed self.now) }
     {
-        is_listed(&self.list[0..self.count], edges)
+        self.list
+            .iter()
+            .any(|entry| entry.journey.edges.as_slice() == edges)
     }
 
-    // The edges by which entries that begin with a beginning go on: they stand at the front of the list.
-    pub fn next_edges(&self, beginning: &[u16], edges: &mut [u16; 16]) -> usize
-        ensures few { result ≤ 16 }
-        ensures answer { (x : ℕ) → In x (take result edges.new) ↔ NextEdge (λ y. In y (listed self.now)) beginning.now x }
+    // The edges by which entries that begin with a beginning go on.
+    #[tactic(auto, using(crate::proofs::Listed::more_some, crate::proofs::Listed::more_none, crate::proofs::Listed::next_in))]
+    pub fn next_edges(&self, beginning: &[u16]) -> ArrayVec<u16, 16>
+        ensures { (x : ℕ) → In x result.items ↔ NextEdge (λ y. In y (listed self.now)) beginning.now x }
     {
-        gather_next_edges(&self.list[0..self.count], beginning, edges)
+        let mut edges = ArrayVec::new();
+        for entry in self.list.iter() {
+            if let Some(edge) = entry.next_edge(beginning) {
+                edges.push(edge);
+            }
+        }
+        edges
+    }
+}
+
+impl Entry {
+    // The edge by which the entry goes on after a beginning, if it begins with that and goes on.
+    #[tactic(auto, using(crate::proofs::Listed::next_none, crate::proofs::Listed::next_some))]
+    fn next_edge(&self, beginning: &[u16]) -> Option<u16>
+        ensures { result ≡ next_after beginning.now (edges_of self.now) }
+    {
+        let rest = self.journey.edges.strip_prefix(beginning)?;
+        rest.first().copied()
     }
 }
 
 // Whether one of the entries begins with a beginning and goes on.
 pub fn go_on(entries: &[Entry], beginning: &[u16]) -> bool
-    ensures { GoOn (all_edges entries.now) beginning.now result }
+    ensures { IsTrue result ↔ ((g : ℕ) × NextEdge (λ y. In y (all_edges entries.now)) beginning.now g) }
 {
-    for journey in entries {
-        if goes_on(journey, beginning) {
-            return true;
-        }
-    }
-    false
-}
-
-// Whether an entry begins with a beginning and goes on.
-fn goes_on(journey: &Entry, beginning: &[u16]) -> bool
-    ensures { GoesOn journey.now beginning.now result }
-{
-    beginning.len() < journey.count && begins(&journey.edges, beginning)
-}
-
-// Whether the edges begin with a beginning.
-fn begins(edges: &[u16], beginning: &[u16]) -> bool
-    ensures { Starts edges.now beginning.now result }
-{
-    if edges.len() < beginning.len() {
-        return false;
-    }
-    for (i, edge) in beginning.iter().enumerate() {
-        if edges[i] != *edge {
-            return false;
-        }
-    }
-    true
-}
-
-fn is_listed(entries: &[Entry], edges: &[u16]) -> bool
-    ensures { Lists (all_edges entries.now) edges.now result }
-{
-    for journey in entries {
-        if journey.count == edges.len() && begins(&journey.edges, edges) {
-            return true;
-        }
-    }
-    false
-}
-
-fn gather_next_edges(entries: &[Entry], beginning: &[u16], edges: &mut [u16; 16]) -> usize
-    requires { length entries.now ≤ 16 }
-    ensures few { result ≤ 16 }
-    ensures answer { (x : ℕ) → In x (take result edges.new) ↔ NextEdge (λ y. In y (all_edges entries.now)) beginning.now x }
-{
-    let mut count: usize = 0;
-    for journey in entries {
-        if goes_on(journey, beginning) {
-            edges[count] = journey.edges[beginning.len()];
-            count += 1;
-        }
-    }
-    count
+    entries
+        .iter()
+        .any(|entry| entry.next_edge(beginning).is_some())
 }

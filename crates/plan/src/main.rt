@@ -14,9 +14,10 @@ use layers::gate::Gate;
 use layers::late::Late;
 use networks::Network;
 use refusals::Refusal;
-use search::calls::{Answer, Call};
+use search::calls::{Answer, Call, Reply};
 use search::run::run;
 use shown::print_journey;
+use std::array;
 use std::process::ExitCode;
 use timetable::table::DayTable;
 
@@ -39,14 +40,14 @@ fn list<N: Network + Drop>(
     network: N,
     question: Question,
 ) -> Result<(), Failure> {
-    let mut answers = [Answer::Struck; 16];
+    let mut answers: [Answer; 16] = array::from_fn(|_| Ok(Reply::Struck));
     let network = run(network, question, &[Call::Next; 16], &mut answers).into_network();
     let first = &answers[0];
-    if let Answer::Refused(refusal) = first {
+    if let Err(refusal) = first {
         return Err((*refusal).into());
     }
     for (i, answer) in answers.iter().enumerate() {
-        if let Answer::Gave(journey) = answer {
+        if let Ok(Reply::Gave(journey)) = answer {
             print_journey(rt, &network, question.start(), i + 1, journey)?;
         }
     }

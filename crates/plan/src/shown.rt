@@ -1,5 +1,5 @@
 // A journey as a person reads it.
-use entries::entry::Entry;
+use entries::entry::Journey;
 use journeys::walks::take_edge;
 use networks::Network;
 use std::{fmt, io};
@@ -23,13 +23,13 @@ pub fn print_journey<N: Network>(
     network: &N,
     start: u32,
     number: usize,
-    journey: &Entry,
+    journey: &Journey,
 ) -> io::Result<()> {
     let arrival = Clock(journey.arrival);
     println!(rt; "{number}: arrival {arrival}")?;
     let mut here = None;
     let mut instant = start;
-    for edge in &journey.edges[0..journey.count] {
+    for edge in journey.edges.iter() {
         let Ok(step) = take_edge(network, here, instant, *edge) else {
             break;
         };

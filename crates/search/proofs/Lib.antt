@@ -1,4 +1,2 @@
 pub mod Entering
-pub mod Refusing
-pub mod Copying
 pub mod Turns

@@ -2,11 +2,12 @@
 use Rattle.std.specs.Prelude.{◌≡◌, ℕ, ◌-◌, ◌≤◌, List, [], ◌∷◌, ◌++◌, take, drop, Ok, Err, Result, slice_index_or}
 use Rattle.refusals.specs.declared.Refusal.{Refusal}
 use Rattle.entries.specs.declared.entry.Entries.{Entries}
-use Rattle.entries.specs.Listing.{Journey, listed, given_of}
+use Rattle.entries.specs.declared.entry.Journey.{Journey}
+use Rattle.entries.specs.Listing.{listed, given_of}
 
 -- the journey that an answer tells: its arrival, and as many edges as it says at the buffer's front
 abbrev pub told_journey : List ℕ → ℕ × ℕ → Journey
-told_journey buffer p = record { arrival = p.0; edges = take p.1 buffer }
+told_journey buffer p = record { arrival = p.0; edges = record { items = take p.1 buffer } }
 
 -- the entries after next: the journey that it gives comes last; a refusal leaves them as they were
 abbrev pub NextEnters : Entries → List ℕ → Result (ℕ × ℕ) Refusal → Entries → Type 0

@@ -1,5 +1,6 @@
 pub mod Reasons
 pub mod Calls
+pub mod Known
 pub mod Sounds
 pub mod Runs
 pub mod Turning

@@ -5,7 +5,7 @@ use Rattle.refusals.specs.declared.SearchRefusal.{SearchRefusal}
 use Rattle.refusals.specs.declared.SearchRefusal.TheVariants.{TooManyEntries, NoMore, NotGiven, NotSimple, AlreadyListed, SheetTooShort}
 use Rattle.journeys.specs.declared.question.Question.{Question}
 use Rattle.journeys.specs.Journeys.{In, Simple, Unlisted}
-use Rattle.entries.specs.Listing.{Journey}
+use Rattle.entries.specs.declared.entry.Journey.{Journey}
 
 -- when each reason against next holds, where these journeys are listed: sixteen are, or none is unlisted
 abbrev pub AgainstNext : Meaning → Question → List (List ℕ) → SearchRefusal → Type 0

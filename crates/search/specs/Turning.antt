@@ -4,7 +4,6 @@ use Rattle.networks.specs.Networks.{Meaning}
 use Rattle.journeys.specs.declared.question.Question.{Question}
 use Rattle.entries.specs.declared.entry.Entries.{Entries}
 use Rattle.entries.specs.Listing.{listed, given_of}
-use Rattle.search.specs.Sounds.{Sound}
 use Rattle.search.specs.Runs.{Ask, Said, Turn, gives, given_by, Kept, LawAfter}
 
 -- a turn keeps the law, and the entries hold what it gives or strikes behind what they held
@@ -13,10 +12,8 @@ pub record Entered (m : Meaning) (q : Question) (old : Entries) (ask : Ask) (sai
   pub kept : Kept m q (given_of old) (listed old) ask said more
   pub lists : listed new ≡ listed old ++ more
   pub gave : given_of new ≡ given_of old ++ gives ask said
-  pub sound : Sound m q new
 
 -- what the turns of a run do: they give what is given, and whatever goes on from the new entries goes on from the old ones through these turns
 pub record Ran (m : Meaning) (q : Question) (old : Entries) (ts : List Turn) (new : Entries) : Type 0 where
   pub law : (rest : List Turn) → LawAfter m q (given_of new) (listed new) rest → LawAfter m q (given_of old) (listed old) (ts ++ rest)
   pub gave : given_of new ≡ given_of old ++ given_by ts
-  pub sound : Sound m q new

@@ -1,5 +1,5 @@
 // The calls that a run sends to a search, and their answers.
-use entries::entry::Entry;
+use entries::entry::Journey;
 use refusals::Refusal;
 
 #[derive(Clone, Copy)]
@@ -9,9 +9,11 @@ pub enum Call<'a> {
     Strike(&'a [u16]),
 }
 
-#[derive(Clone, Copy)]
-pub enum Answer {
-    Gave(Entry),
+// What a call that is not refused comes to.
+#[derive(Clone, Drop, PartialEq, Eq)]
+pub enum Reply {
+    Gave(Journey),
     Struck,
-    Refused(Refusal),
 }
+
+pub type Answer = Result<Reply, Refusal>;

@@ -1,17 +1,17 @@
 // An open search and its calls, and the closed search that it becomes.
-ghost use Rattle.std.specs.Prelude.{◌≡◌, ℕ, ◌<◌, ◌≤◌, false, [], ◌∷◌, ◌++◌, length, take, drop, IfOk, OnOk};
-ghost use Rattle.refusals.specs.Verdicts.{Verdict};
+ghost use Rattle.std.specs.Prelude.{◌≡◌, ℕ, [], ◌∷◌, ◌++◌, length, take, option_map, slice_get, IfOk, OnOk};
+ghost use Rattle.refusals.specs.Verdicts.{Verdict, Judged};
 ghost use Rattle.refusals.specs.declared.Refusal.TheVariants.{OfSearch};
-ghost use Rattle.journeys.specs.Journeys.{Unlisted};
+ghost use Rattle.journeys.specs.Journeys.{Unlisted, Simple};
 ghost use Rattle.journeys.specs.Rank.{FirstInRank};
-ghost use Rattle.entries.specs.Listing.{listed, given_of, as_given, GivenAt};
+ghost use Rattle.entries.specs.Listing.{listed, given_of};
 ghost use Rattle.search.specs.Reasons.{AgainstNext, AgainstAgain, AgainstStrike};
-ghost use Rattle.search.specs.Sounds.{Sound};
+ghost use Rattle.search.specs.Sounds.{Sound, Sound-prop};
 ghost use Rattle.search.specs.Calls.{told_journey, NextEnters, StrikeEnters, Rest, Ith};
 
 use branches::first_unlisted;
 use branches::follow::simple_arrival;
-use entries::entry::{Entries, Entry};
+use entries::entry::{Entries, Entry, Journey, Standing};
 use journeys::question::Question;
 use networks::Network;
 use refusals::{Refusal, SearchRefusal};
@@ -20,48 +20,7 @@ pub struct OpenSearch<N: Network> {
     network: N,
     question: Question,
     entries: Entries,
-}
-
-// Puts an entry behind the others.
-fn enter(entries: &mut Entries, entry: Entry)
-    requires { entries.old.count < 16 }
-    ensures listed { listed entries.new ≡ listed entries.old ++ (take entry.count entry.edges ∷ []) }
-    ensures given { given_of entries.new ≡ given_of entries.old ++ as_given entry.given entry.arrival (take entry.count entry.edges) }
-{
-    entries.list[entries.count] = entry;
-    entries.count += 1;
-}
-
-// Copies edges to the front of an array.
-fn put(edges: &[u16], array: &mut [u16; 255])
-    requires { length edges.now ≤ 255 }
-    ensures { array.new ≡ edges.now ++ drop (length edges.now) array.old }
-{
-    array[0..edges.len()].copy_from_slice(edges);
-}
-
-// Writes the edges of an entry at the front of a buffer.
-fn write_edges(entry: &Entry, buffer: &mut [u16; 255])
-    ensures answer { take entry.now.count buffer.new ≡ take entry.now.count entry.now.edges }
-    ensures rest { drop entry.now.count buffer.new ≡ drop entry.now.count buffer.old }
-{
-    put(&entry.edges[0..entry.count], buffer);
-}
-
-// The entry of a journey that is struck.
-fn struck_entry(edges: &[u16], arrival: u32) -> Entry
-    requires { length edges.now ≤ 255 }
-    ensures edges { take result.count result.edges ≡ edges.now }
-    ensures given { result.given ≡ false }
-{
-    let mut kept = [0u16; 255];
-    put(edges, &mut kept);
-    Entry {
-        edges: kept,
-        count: edges.len(),
-        arrival,
-        given: false,
-    }
+    ghost sound: { Sound (N.meaning network) question entries } by { Sound-prop (N.meaning network) question entries },
 }
 
 impl<N: Network> OpenSearch<N> {
@@ -70,7 +29,6 @@ impl<N: Network> OpenSearch<N> {
         ensures answer { (result.network ≡ network) × (result.question ≡ question) }
         ensures listed { listed result.entries ≡ [] }
         ensures given { given_of result.entries ≡ [] }
-        ensures sound { Sound (N.Network.meaning result.network) result.question result.entries }
     {
         OpenSearch {
             network,
@@ -79,34 +37,59 @@ impl<N: Network> OpenSearch<N> {
         }
     }
 
+    // The first in rank of the unlisted journeys.
+    fn first(&self) -> Result<Journey, SearchRefusal>
+        ensures answer { IfOk result (λ j. FirstInRank (Unlisted (N.Network.meaning self.now.network) self.now.question (listed self.now.entries)) j.arrival j.edges.items) }
+        ensures refusal { Judged OfSearch (50 ∷ 51 ∷ []) (AgainstNext (N.Network.meaning self.now.network) self.now.question (listed self.now.entries)) result }
+    {
+        if self.entries.is_full() {
+            return Err(SearchRefusal::TooManyEntries);
+        }
+        first_unlisted(&self.network, &self.question, &self.entries).ok_or(SearchRefusal::NoMore)
+    }
+
+    // The i-th journey that was given, from 1.
+    fn given(&self, i: usize) -> Result<&Journey, SearchRefusal>
+        ensures answer { IfOk result (λ j. Ith (given_of self.now.entries) i j.now) }
+        ensures refusal { Judged OfSearch (52 ∷ []) (AgainstAgain (given_of self.now.entries) i) result }
+    {
+        let before = i.checked_sub(1).ok_or(SearchRefusal::NotGiven)?;
+        self.entries.given_at(before).ok_or(SearchRefusal::NotGiven)
+    }
+
+    // The journey of the edges, if it is unlisted and there is a place for it.
+    fn unlisted(&self, edges: &[u16]) -> Result<Journey, SearchRefusal>
+        ensures answer { IfOk result (λ j. (j.edges.items ≡ edges.now) × Unlisted (N.Network.meaning self.now.network) self.now.question (listed self.now.entries) j.arrival edges.now) }
+        ensures refusal { Judged OfSearch (53 ∷ 54 ∷ 50 ∷ []) (AgainstStrike (N.Network.meaning self.now.network) self.now.question (listed self.now.entries) edges.now) result }
+    {
+        let Some(arrival) = simple_arrival(&self.network, &self.question, edges) else {
+            return Err(SearchRefusal::NotSimple);
+        };
+        if self.entries.contains(edges) {
+            return Err(SearchRefusal::AlreadyListed);
+        }
+        if self.entries.is_full() {
+            return Err(SearchRefusal::TooManyEntries);
+        }
+        Ok(Journey::new(arrival, edges).unwrap())
+    }
+
     // Gives the first in rank of the unlisted journeys: its arrival and how many edges it has. They are written at the buffer's front.
+    // That buffer of exactly 255 places and that answer are part of the definition of a search.
     pub fn next(&mut self, buffer: &mut [u16; 255]) -> Result<(u32, usize), Refusal>
         ensures same { (self.new.network ≡ self.old.network) × (self.new.question ≡ self.old.question) }
-        ensures answer { Sound (N.Network.meaning self.old.network) self.old.question self.old.entries →
-            IfOk result (λ p. FirstInRank (Unlisted (N.Network.meaning self.old.network) self.old.question (listed self.old.entries)) p.0 (take p.1 buffer.new)) }
-        ensures refusal { Sound (N.Network.meaning self.old.network) self.old.question self.old.entries →
-            Verdict OfSearch (50 ∷ 51 ∷ []) (AgainstNext (N.Network.meaning self.old.network) self.old.question (listed self.old.entries)) result }
+        ensures answer { IfOk result (λ p. FirstInRank (Unlisted (N.Network.meaning self.old.network) self.old.question (listed self.old.entries)) p.0 (take p.1 buffer.new)) }
+        ensures refusal { Verdict OfSearch (50 ∷ 51 ∷ []) (AgainstNext (N.Network.meaning self.old.network) self.old.question (listed self.old.entries)) result }
         ensures after { NextEnters self.old.entries buffer.new result self.new.entries }
         ensures rest { Rest buffer.old buffer.new result }
-        ensures sound { Sound (N.Network.meaning self.old.network) self.old.question self.old.entries →
-            Sound (N.Network.meaning self.new.network) self.new.question self.new.entries }
     {
-        if self.entries.count >= 16 {
-            return Err(Refusal::OfSearch(SearchRefusal::TooManyEntries));
-        }
-        match first_unlisted(&self.network, &self.question, &self.entries, buffer) {
-            Some((arrival, count)) => {
-                let entry = Entry {
-                    edges: *buffer,
-                    count,
-                    arrival,
-                    given: true,
-                };
-                enter(&mut self.entries, entry);
-                Ok((arrival, count))
-            }
-            None => Err(Refusal::OfSearch(SearchRefusal::NoMore)),
-        }
+        let journey = self.first()?;
+        let told = journey.write_to(buffer);
+        self.entries.list.push(Entry {
+            standing: Standing::Given,
+            journey,
+        });
+        Ok(told)
     }
 
     // The i-th journey that was given, from 1; it is told as next told it.
@@ -115,16 +98,8 @@ impl<N: Network> OpenSearch<N> {
         ensures refusal { Verdict OfSearch (52 ∷ []) (AgainstAgain (given_of self.now.entries) i) result }
         ensures rest { Rest buffer.old buffer.new result }
     {
-        if i == 0 {
-            return Err(Refusal::OfSearch(SearchRefusal::NotGiven));
-        }
-        match self.entries.given_at(i - 1) {
-            Some(entry) => {
-                write_edges(&entry, buffer);
-                Ok((entry.arrival, entry.count))
-            }
-            None => Err(Refusal::OfSearch(SearchRefusal::NotGiven)),
-        }
+        let journey = self.given(i)?;
+        Ok(journey.write_to(buffer))
     }
 
     // Strikes an unlisted journey: it is an entry then, and never given.
@@ -133,19 +108,12 @@ impl<N: Network> OpenSearch<N> {
         ensures answer { OnOk result ((a : ℕ) × Unlisted (N.Network.meaning self.old.network) self.old.question (listed self.old.entries) a edges.now) }
         ensures refusal { Verdict OfSearch (53 ∷ 54 ∷ 50 ∷ []) (AgainstStrike (N.Network.meaning self.old.network) self.old.question (listed self.old.entries) edges.now) result }
         ensures after { StrikeEnters self.old.entries edges.now result self.new.entries }
-        ensures sound { Sound (N.Network.meaning self.old.network) self.old.question self.old.entries →
-            Sound (N.Network.meaning self.new.network) self.new.question self.new.entries }
     {
-        let Some(arrival) = simple_arrival(&self.network, &self.question, edges) else {
-            return Err(Refusal::OfSearch(SearchRefusal::NotSimple));
-        };
-        if self.entries.contains(edges) {
-            return Err(Refusal::OfSearch(SearchRefusal::AlreadyListed));
-        }
-        if self.entries.count >= 16 {
-            return Err(Refusal::OfSearch(SearchRefusal::TooManyEntries));
-        }
-        enter(&mut self.entries, struck_entry(edges, arrival));
+        let journey = self.unlisted(edges)?;
+        self.entries.list.push(Entry {
+            standing: Standing::Struck,
+            journey,
+        });
         Ok(())
     }
 
@@ -188,8 +156,8 @@ impl<N: Network> ClosedSearch<N> {
     }
 
     // The journey at a place, counted from 0, of those that the search gave.
-    pub fn given_at(&self, place: usize) -> Option<Entry>
-        ensures { GivenAt (given_of self.now.entries) place result }
+    pub fn given_at(&self, place: usize) -> Option<&Journey>
+        ensures { option_map (λ j. j.now) result ≡ slice_get (given_of self.now.entries) place }
     {
         self.entries.given_at(place)
     }

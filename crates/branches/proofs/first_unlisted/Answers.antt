@@ -1,36 +1,24 @@
-use Rattle.std.proofs.Common.{ℕ, List, take, None, Option, sym, refl, subst, arith}
-use Rattle.journeys.specs.Journeys.{Unlisted}
-use Rattle.journeys.specs.Rank.{FirstInRank}
-use Rattle.entries.specs.Listing.{listed}
-use Rattle.branches.specs.Bests.{found, Progress, Done}
-use Rattle.branches.proofs.Offering.{copied_out}
-use Rattle.branches.proofs.Passing.{all_none, all_some}
+use Rattle.std.proofs.Common.{None, length, ap, ◌∙◌, arith, take_all}
+use Rattle.entries.specs.Listing.{all_edges, listed}
+use Rattle.entries.proofs.Listed.{in_all}
+use Rattle.branches.proofs.Passing.{next_entry, first_of_all}
 use Rattle.branches.proofs.first_unlisted.Goals as goal
 
-pub returns-in-Some : goal.returns-in-Some
-returns-in-Some g c =
-    let m = g.N.Network.meaning c.args.network.now in
-    let q = c.args.question.now in
-    let ys = listed c.args.entries.now in
-    let b = c.best_branch-best.result in
-    let few = b.few in
-    let whole = b.whole in
-    let h = copied_out b.count b.edges c.args.buffer.now c.put.new.array (omega arith) c.put.ensures in
-    record {
-      answer = λ s.
-          subst (λ (z : List ℕ). FirstInRank (Unlisted m q ys) c.in-Some.arrival z) (sym h.0)
-          (all_some m q ys s c.in-Some.arrival (take b.count b.edges)
-          (subst (λ (z : Option ℕ). Progress m q ys (Done ys) None (found z (take b.count b.edges))) c.in-Some.is (c.best_branch-best.ensures s)));
-      rest = (few, h.1);
-    }
+pub branch-best-requires-clause-here : goal.branch-best-requires-clause-here
+branch-best-requires-clause-here g c = c.at_origin.ensures (g.N.Network.meaning c.args.network.now)
 
-pub returns-in-None : goal.returns-in-None
-returns-in-None g c =
+pub branch_along-best-requires : goal.branch_along-best-requires
+branch_along-best-requires g c = rw (c.deref.ensures.0, c.index-list-i.is, c.as_slice-list.ensures.value) (in_all c.args.entries.now.list.items c.loop-i.i c.index-list-i.result (omega (arith, ap length c.as_slice-list.ensures.value)))
+
+pub loop-i-preserved : goal.loop-i-preserved
+loop-i-preserved g c = λ s.
     let m = g.N.Network.meaning c.args.network.now in
     let q = c.args.question.now in
-    let ys = listed c.args.entries.now in
-    let b = c.best_branch-best.result in
-    record {
-      answer = λ s. all_none m q ys s (subst (λ (z : Option ℕ). Progress m q ys (Done ys) None (found z (take b.count b.edges))) c.in-None.is (c.best_branch-best.ensures s));
-      rest = refl;
-    }
+    let x = c.loop-i.invariant s in
+    next_entry m q (listed c.args.entries.now) c.as_slice-list.result.now c.loop-i.i c.index-list-i.result None c.loop-i.best c.branch_along-best.result c.loop-i-test.true c.index-list-i.is x
+    (rw c.deref.ensures.0 at (c.branch_along-best.ensures x.beats s x.unlisted))
+
+pub returns : goal.returns
+returns g c = λ s.
+    let all = ap all_edges (take_all c.loop-i.i c.as_slice-list.result.now c.loop-i-test.false ∙ c.as_slice-list.ensures.value) in
+    first_of_all (g.N.Network.meaning c.args.network.now) c.args.question.now (listed c.args.entries.now) s c.loop-i.best (rw all at (c.loop-i.invariant s))

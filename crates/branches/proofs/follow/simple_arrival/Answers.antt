@@ -1,28 +1,20 @@
-use Rattle.std.proofs.Common.{arith}
-use Rattle.journey_laws.proofs.Entries.{few_edges}
-use Rattle.branches.proofs.Following.{no_way, elsewhere, too_late, is_simple}
+use Rattle.std.proofs.Common.{sym, ◌∙◌, inl, inr, arith}
+use Rattle.branches.proofs.Advancing.{not_simple, elsewhere, arrives}
 use Rattle.branches.proofs.follow.simple_arrival.Goals as goal
+use Rattle.branches.proofs.follow.simple_arrival.Goals.{then-position-destination-via-then-position-destination, then-position-destination-via-else-position-destination+then-position-latest}
 
-pub returns-then-stop-destination : goal.returns-then-stop-destination
-returns-then-stop-destination g c =
-    let h = c.in-Some.ensures in
-    elsewhere (g.N.Network.meaning c.args.network.now) c.args.question.now c.args.edges.now h.0 c.in-Some.stop c.in-Some.instant h.1
-    (λ e. let d = c.destination.ensures in c.if-stop-destination.true (omega arith))
+pub returns-in_err-position : goal.returns-in_err-position
+returns-in_err-position g c =
+    rw c.from_residual.ensures (not_simple (g.N.Network.meaning c.args.network.now) c.args.question.now c.args.edges.now c.in_err-position.ensures)
 
-pub returns-then-instant-latest : goal.returns-then-instant-latest
-returns-then-instant-latest g c =
-    let h = c.in-Some.ensures in
-    too_late (g.N.Network.meaning c.args.network.now) c.args.question.now c.args.edges.now h.0 c.in-Some.stop c.in-Some.instant h.1
-    (let d = c.latest.ensures in let t = c.if-instant-latest.true in omega arith)
+pub returns-then-position-destination : goal.returns-then-position-destination
+returns-then-position-destination g c =
+    elsewhere (g.N.Network.meaning c.args.network.now) c.args.question.now c.args.edges.now c.in_ok-position.position c.in_ok-position.ensures
+    (elim c.then-position-destination.branch [
+      | then-position-destination-via-then-position-destination w ↦ inl (λ e. w.if-position-destination.true (e ∙ sym c.destination.ensures))
+      | then-position-destination-via-else-position-destination+then-position-latest w ↦ inr (omega arith)
+    ])
 
-pub returns-else-instant-latest : goal.returns-else-instant-latest
-returns-else-instant-latest g c =
-    let m = g.N.Network.meaning c.args.network.now in
-    let q = c.args.question.now in
-    let es = c.args.edges.now in
-    let h = c.in-Some.ensures in
-    let j = is_simple m q es h.0 c.in-Some.stop c.in-Some.instant h.1 (let d = c.destination.ensures in let t = c.if-stop-destination.false in omega arith) (let d = c.latest.ensures in let t = c.if-instant-latest.false in omega arith) in
-    (few_edges m q (g.met.N.Network.lawful c.args.network.now) c.in-Some.instant es j, j)
-
-pub returns-in-None : goal.returns-in-None
-returns-in-None g c = no_way (g.N.Network.meaning c.args.network.now) c.args.question.now c.args.edges.now c.in-None.ensures
+pub returns : goal.returns
+returns g c =
+    arrives (g.N.Network.meaning c.args.network.now) c.args.question.now c.args.edges.now c.in_ok-position.position c.in_ok-position.ensures (g.met.N.Network.lawful c.args.network.now) (omega arith) (omega arith)

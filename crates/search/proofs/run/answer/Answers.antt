@@ -1,92 +1,63 @@
-use Rattle.std.proofs.Common.{[], ◌∷◌, sym, refl, ap, subst, inr}
-use Rattle.journeys.specs.declared.question.Question.{Question}
+use Rattle.std.proofs.Common.{Ok, Err, [], ◌∷◌, refl, inr}
 use Rattle.entries.specs.Listing.{listed}
-use Rattle.search.specs.Sounds.{Sound}
 use Rattle.search.specs.Calls.{told_journey}
-use Rattle.search.specs.Runs.{Ask, asked, next, again, strike, gave, struck, refused}
-use Rattle.search.specs.Turning.{Entered}
-use Rattle.search.proofs.Turns.{entered, unchanged, struck_turn, not_struck}
+use Rattle.search.specs.Runs.{next, again, strike}
+use Rattle.search.specs.declared.calls.Reply.TheVariants.{Gave}
+use Rattle.search.proofs.Turns.{told_is, err_is, entered, unchanged, struck_turn, not_struck}
 use Rattle.search.proofs.run.answer.Goals as goal
+use Rattle.search.proofs.run.answer.Goals.{in-Next+in_ok-next-in-Next, in-Again+in_ok-arrival-in-Again}
 
-pub returns-in-Ok : goal.returns-in-Ok
-returns-in-Ok g c =
+pub returns-in_err-next-in-Next-clause-turn : goal.returns-in_err-next-in-Next-clause-turn
+returns-in_err-next-in-Next-clause-turn g c =
     let s = c.args.search.now in
-    let mean = g.N.Network.meaning in
-    let h = c.in-Ok.ensures in
-    let new = c.next.new.self in
-    let j = told_journey c.next.new.buffer (c.in-Ok.arrival, c.in-Ok.count) in
-    record {
-      same = h.same;
-      turn = λ k.
-          subst (λ (a : Ask). Entered (mean s.network) s.question s.entries a (gave j) new.entries) (ap asked (sym c.in-Next.is))
-          (entered (mean s.network) s.question s.entries new.entries next (gave j) (j.edges ∷ []) (h.answer k, h.refusal k) refl h.after.0 h.after.1
-          (subst (λ (z : Question). Sound (mean s.network) z new.entries) h.same.1 (subst (λ n. Sound (mean n) new.question new.entries) h.same.0 (h.sound k))));
-    }
+    let h = c.in_err-next-in-Next.ensures in
+    let r = c.in_err-next-in-Next.field-0.0 in
+    rw (c.in-Next.is, err_is c.from_residual.result r c.from_residual.ensures) (unchanged (g.N.Network.meaning s.network) s.question s.entries c.next.new.self.entries next (Err r) h.refusal refl refl h.after s.sound)
 
-pub returns-in-Err : goal.returns-in-Err
-returns-in-Err g c =
+pub returns-in_err-arrival-in-Again-clause-turn : goal.returns-in_err-arrival-in-Again-clause-turn
+returns-in_err-arrival-in-Again-clause-turn g c =
     let s = c.args.search.now in
-    let mean = g.N.Network.meaning in
-    let h = c.in-Err.ensures in
-    let new = c.next.new.self in
-    record {
-      same = h.same;
-      turn = λ k.
-          subst (λ (a : Ask). Entered (mean s.network) s.question s.entries a (refused c.in-Err.refusal) new.entries) (ap asked (sym c.in-Next.is))
-          (unchanged (mean s.network) s.question s.entries new.entries next (refused c.in-Err.refusal) (h.refusal k) refl refl h.after k);
-    }
+    let h = c.in_err-arrival-in-Again.ensures in
+    let r = c.in_err-arrival-in-Again.field-0.0 in
+    rw (c.in-Again.is, err_is c.from_residual-in_err-arrival-in-Again.result r c.from_residual-in_err-arrival-in-Again.ensures)
+    (unchanged (g.N.Network.meaning s.network) s.question s.entries s.entries (again c.in-Again.i) (Err r) h.refusal refl refl refl s.sound)
 
-pub returns-in-Ok-again : goal.returns-in-Ok-again
-returns-in-Ok-again g c =
+pub returns-in_err-strike-in-Strike-clause-turn : goal.returns-in_err-strike-in-Strike-clause-turn
+returns-in_err-strike-in-Strike-clause-turn g c =
     let s = c.args.search.now in
-    let mean = g.N.Network.meaning in
-    let h = c.in-Ok-again.ensures in
-    let j = told_journey c.again.new.buffer (c.in-Ok-again.arrival, c.in-Ok-again.count) in
-    record {
-      same = (refl, refl);
-      turn = λ k.
-          subst (λ (a : Ask). Entered (mean s.network) s.question s.entries a (gave j) s.entries) (ap asked (sym c.in-Again.is))
-          (unchanged (mean s.network) s.question s.entries s.entries (again c.in-Again.i) (gave j) (h.answer, h.refusal) refl refl refl k);
-    }
-
-pub returns-in-Err-again : goal.returns-in-Err-again
-returns-in-Err-again g c =
-    let s = c.args.search.now in
-    let mean = g.N.Network.meaning in
-    let h = c.in-Err-again.ensures in
-    record {
-      same = (refl, refl);
-      turn = λ k.
-          subst (λ (a : Ask). Entered (mean s.network) s.question s.entries a (refused c.in-Err-again.refusal) s.entries) (ap asked (sym c.in-Again.is))
-          (unchanged (mean s.network) s.question s.entries s.entries (again c.in-Again.i) (refused c.in-Err-again.refusal) h.refusal refl refl refl k);
-    }
-
-pub returns-in-Ok-strike : goal.returns-in-Ok-strike
-returns-in-Ok-strike g c =
-    let s = c.args.search.now in
-    let mean = g.N.Network.meaning in
-    let h = c.in-Ok-strike.ensures in
-    let new = c.strike.new.self in
+    let h = c.in_err-strike-in-Strike.ensures in
+    let r = c.in_err-strike-in-Strike.field-0.0 in
     let es = c.in-Strike.edges.now in
-    record {
-      same = h.same;
-      turn = λ k.
-          subst (λ (a : Ask). Entered (mean s.network) s.question s.entries a struck new.entries) (ap asked (sym c.in-Strike.is))
-          (struck_turn (mean s.network) s.question s.entries new.entries es h.answer h.refusal h.after.0 h.after.1
-          (subst (λ (z : Question). Sound (mean s.network) z new.entries) h.same.1 (subst (λ n. Sound (mean n) new.question new.entries) h.same.0 (h.sound k))));
-    }
+    rw (c.in-Strike.is, err_is c.from_residual-in_err-strike-in-Strike.result r c.from_residual-in_err-strike-in-Strike.ensures)
+    (unchanged (g.N.Network.meaning s.network) s.question s.entries c.strike.new.self.entries (strike es) (Err r) h.refusal
+    (inr (not_struck (g.N.Network.meaning s.network) s.question (listed s.entries) es r h.refusal, refl)) refl h.after s.sound)
 
-pub returns-in-Err-strike : goal.returns-in-Err-strike
-returns-in-Err-strike g c =
+pub returns-in-Strike-clause-turn : goal.returns-in-Strike-clause-turn
+returns-in-Strike-clause-turn g c =
+    let s = c.args.search.now in
+    let h = c.in_ok-strike-in-Strike.ensures in
+    let new = c.strike.new.self in
+    let mean = g.N.Network.meaning in
+    rw c.in-Strike.is
+    (struck_turn (mean s.network) s.question s.entries new.entries c.in-Strike.edges.now h.answer h.refusal h.after.0 h.after.1
+    (rw (← h.same.0, ← h.same.1) new.sound))
+
+pub returns-clause-turn : goal.returns-clause-turn
+returns-clause-turn g c =
     let s = c.args.search.now in
     let mean = g.N.Network.meaning in
-    let h = c.in-Err-strike.ensures in
-    let new = c.strike.new.self in
-    let es = c.in-Strike.edges.now in
-    let r = c.in-Err-strike.refusal in
-    record {
-      same = h.same;
-      turn = λ k.
-          subst (λ (a : Ask). Entered (mean s.network) s.question s.entries a (refused r) new.entries) (ap asked (sym c.in-Strike.is))
-          (unchanged (mean s.network) s.question s.entries new.entries (strike es) (refused r) h.refusal (inr (not_struck (mean s.network) s.question (listed s.entries) es r h.refusal, refl)) refl h.after k);
-    }
+    let told = told_is c.new.result c.unwrap.result c.match-call.buffer c.match-call.arrival c.unwrap.ensures c.new.ensures.ok in
+    elim c.match-call.branch [
+      | in-Next+in_ok-next-in-Next w ↦
+          let h = w.in_ok-next-in-Next.ensures in
+          let new = w.next.new.self in
+          let j = told_journey w.next.new.buffer (w.in_ok-next-in-Next.arrival, w.in_ok-next-in-Next.count) in
+          rw (w.in-Next.is, told, w.buffer-is, w.arrival-is, w.search-is)
+          (entered (mean s.network) s.question s.entries new.entries next (Ok (Gave j)) (j.edges.items ∷ []) (h.answer, h.refusal) refl h.after.0 h.after.1
+          (rw (← h.same.0, ← h.same.1) new.sound))
+      | in-Again+in_ok-arrival-in-Again w ↦
+          let h = w.in_ok-arrival-in-Again.ensures in
+          let j = told_journey w.again.new.buffer (w.in_ok-arrival-in-Again.arrival, w.in_ok-arrival-in-Again.count) in
+          rw (w.in-Again.is, told, w.buffer-is, w.arrival-is, w.search-is)
+          (unchanged (mean s.network) s.question s.entries s.entries (again w.in-Again.i) (Ok (Gave j)) (h.answer, h.refusal) refl refl refl s.sound)
+    ]

@@ -1,13 +1,12 @@
-use Rattle.std.proofs.Common.{ℕ, ◌↔◌, take, subst, arith}
-use Rattle.journeys.specs.Journeys.{In}
-use Rattle.journey_laws.specs.Branching.{NextEdge}
-use Rattle.entries.specs.Listing.{all_edges}
+use Rattle.std.proofs.Common.{arith, length, take_all, ap, ◌∙◌}
+use Rattle.std.specs.List.{filter_map}
+use Rattle.entries.specs.declared.entry.Entry.{Entry}
+use Rattle.entries.specs.Listing.{edges_of, next_after}
+use Rattle.entries.proofs.Listed.{next_in}
 use Rattle.entries.proofs.entry.Entries.next_edges.Goals as goal
 
 pub returns : goal.returns
-returns c = record {
-  few = c.gather_next_edges.ensures.few;
-  answer = λ x.
-      subst (λ (k : ℕ). In x (take c.gather_next_edges.result c.gather_next_edges.new.edges) ↔ NextEdge (λ y. In y (all_edges (take k c.args.self.now.list))) c.args.beginning.now x)
-      (omega arith) (c.gather_next_edges.ensures.answer x);
-}
+returns c = λ x.
+    let es = c.args.self.now.list.items in
+    let p = c.args.beginning.now in
+    rw (c.loop-entry.invariant.gathered ∙ ap (filter_map (λ (e : Entry). next_after p (edges_of e))) (take_all c.loop-entry.entry-index es (omega (arith, ap length c.deref-entry-items.ensures.0)))) (next_in es p x)
