@@ -69,8 +69,8 @@ impl<N: Network> Branching<'_, N> {
             destination: self.question.destination(),
             latest: by,
         };
-        let Ok((arrival, count)) =
-            detour(self.network, course, &mut shut, &barred, &mut edges) else {
+        let Ok((arrival, count)) = detour(self.network, course, &mut shut, &barred, &mut edges)
+        else {
             return None;
         };
         Journey::joined(arrival, beginning, &edges[..count]).ok()
