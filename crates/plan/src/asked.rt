@@ -71,9 +71,12 @@ impl Asked {
             windows: Vec::new(rt.alloc()),
             notices: Vec::new(rt.alloc()),
         };
-        while let Some(option) = args.next() {
-            let value = args.next().ok_or(Failure::Usage)?;
-            asked.add(&option, &value)?;
+        let options = args.collect::<Vec<_>>(rt.alloc())?;
+        for pair in options.chunks(2) {
+            let [option, value] = pair else {
+                return Err(Failure::Usage);
+            };
+            asked.add(option, value)?;
         }
         Ok(asked)
     }
