@@ -24,6 +24,7 @@ mod position;
 fn offer(best: Option<Journey>, journey: Journey) -> Journey
     ensures { Offered journey best result }
 {
+    // A match, since `map_or` would take the journey twice.
     match best {
         Some(best) => best.min(journey),
         None => journey,
@@ -69,6 +70,7 @@ impl<N: Network> Branching<'_, N> {
             destination: self.question.destination(),
             latest: by,
         };
+        // Not `.ok()?`: the proof of what is answered here did not close over it.
         let Ok((arrival, count)) = detour(self.network, course, &mut shut, &barred, &mut edges)
         else {
             return None;
@@ -87,6 +89,7 @@ impl<N: Network> Branching<'_, N> {
         requires place { Place (λ y. In y (listed self.now.entries.now)) beginning.now }
         ensures { Improves (N.Network.meaning self.now.network.now) self.now.question.now (listed self.now.entries.now) (λ p. p ≡ beginning.now) best result }
     {
+        // A match, since `map_or` would take the best twice.
         match self.first_leaving(beginning, position, until(self.question, &best)) {
             Some(journey) => Some(offer(best, journey)),
             None => best,

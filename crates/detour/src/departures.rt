@@ -7,6 +7,7 @@ ghost use Rattle.detour.specs.Departing.{Grouped, Ascending, link};
 use networks::Network;
 
 // The first edge that leaves each stop, and after each edge the next that leaves the same stop.
+// Links in two arrays, since a list for each stop would allocate, and a search allocates nothing.
 #[derive(Drop)]
 pub struct Departures<'a, N: Network> {
     pub network: &'a N,

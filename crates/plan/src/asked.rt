@@ -44,7 +44,7 @@ fn notice(word: &str) -> Result<Notice, Failure> {
 }
 
 impl Asked {
-    // Takes over one option with its value.
+    // Takes over one option with its value. A match tells their names apart: a table of functions would have the same rows.
     fn add(&mut self, option: &str, value: &str) -> Result<(), Failure> {
         match option {
             "--window" => self.windows.push(window(value)?)?,

@@ -34,7 +34,7 @@ impl StopSet {
     }
 }
 
-// Lends a set; at its end the set holds again what was saved.
+// Lends a set; at its end the set holds again what was saved. A detour is asked for with such a guard.
 pub struct Restore<'a> {
     pub set: &'a mut StopSet,
     pub saved: StopSet,

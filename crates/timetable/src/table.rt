@@ -76,6 +76,7 @@ impl DayTable {
         ensures { result ≡ at_edge (λ c. Some (Ride c)) (λ f. Some (Walk f)) self.now.connections.items self.now.footpaths.items edge }
     {
         let edge = edge as usize;
+        // A match, since a closure behind `or_else` would not know that the edge stands behind the connections.
         match self.connections.get(edge) {
             Some(connection) => Some(Edge::Ride(*connection)),
             None => Some(Edge::Walk(*self.footpaths.get(edge - self.connections.len())?)),
