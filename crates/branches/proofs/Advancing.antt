@@ -1,8 +1,9 @@
 -- Where the edges lead, edge by edge, and whether they are a simple journey.
-use Rattle.std.proofs.Common.{◌≡◌, ℕ, ◌+◌, ◌<◌, ◌≤◌, true, false, ◌≢◌, ◌⊎◌, ◌↔◌, List, [], ◌∷◌, ◌++◌, length, get_or, take, drop, Some, None, Err, Ok, sym, refl, ap, ◌∙◌, subst, inl, inr, append-nil, arith, take-append-drop}
+use Rattle.std.proofs.Common.{◌≡◌, ℕ, ◌+◌, ◌<◌, ◌≤◌, true, false, ◌≢◌, ◌⊎◌, ◌↔◌, List, [], ◌∷◌, ◌++◌, length, get_or, take, drop, Some, None, Err, Ok, Result, sym, refl, ap, ◌∙◌, subst, inl, inr, append-nil, arith, take-append-drop}
 use native.Mathlib.Decide.{ℕ_discrete}
 use Rattle.std.proofs.lemmas.List.{take_more, drop_more}
 use Rattle.std.proofs.lemmas.Bool.{both_ways}
+use Rattle.std.specs.Result.{result_ok}
 use Rattle.networks.specs.Networks.{Meaning, Lawful}
 use Rattle.stops.specs.declared.StopSet.{StopSet}
 use Rattle.stops.specs.Sets.{member, Holds}
@@ -38,6 +39,10 @@ module _ (m : Meaning) (q : Question) (p : List ℕ) (e : ℕ) (here : Position)
 
   pub no_step : (o : Obstacle) → Taken m (Some here.stop) here.instant e (Err o) → Advanced m q p e None
   no_step o h = stays (λ w s st. absurd (not_taken m here.stop here.instant e o h w s st))
+
+  pub none_taken : (r : Result Step Obstacle) → Taken m (Some here.stop) here.instant e r → result_ok r ≡ None → Advanced m q p e None
+  none_taken (Ok step) h is = let z : ◌≡◌ {A = ℕ} 0 1 = cc in absurd (omega arith)
+  none_taken (Err o) h is = no_step o h
 
   step_from : (step : Step) → Taken m (Some here.stop) here.instant e (Ok step) → Takes m here.stop here.instant e step.to step.arrival
   step_from step h = rw h.0 h.1

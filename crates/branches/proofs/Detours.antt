@@ -3,6 +3,8 @@ use Rattle.std.proofs.Common.{◌≡◌, ℕ, ◌+◌, ◌<◌, ◌≤◌, ◌�
 use Rattle.std.specs.Result.{result_ok}
 use Rattle.std.proofs.lemmas.Bool.{cases_lt}
 use Rattle.networks.specs.Networks.{Meaning, Lawful}
+use Rattle.refusals.specs.Verdicts.{Verdict}
+use Rattle.refusals.specs.declared.Refusal.{Refusal}
 use Rattle.refusals.specs.declared.DetourRefusal.{DetourRefusal}
 use Rattle.refusals.specs.declared.DetourRefusal.TheVariants.{StopsUnfit, InstantsUnfit, NoDetour}
 use Rattle.stops.specs.Sets.{Holds}
@@ -25,6 +27,11 @@ use Rattle.entries.specs.declared.entry.Journey.{Journey}
 use Rattle.branches.specs.declared.position.Position.{Position}
 use Rattle.branches.specs.Following.{At}
 use Rattle.branches.specs.Bests.{FirstLeaving}
+
+-- a reason holds where a call is refused
+pub refused : {F A : Type 0} (refusal : F → Refusal) (order : List ℕ) (Holds : F → Type 0) (r : Result A Refusal) → Verdict refusal order Holds r → result_ok r ≡ None → (f : F) × Holds f
+refused refusal order Holds (Ok x) v is = let z : ◌≡◌ {A = ℕ} 0 1 = cc in absurd (omega arith)
+refused refusal order Holds (Err e) v is = (v.0, v.2.holds)
 
 -- who travels arrives no earlier
 later : (m : Meaning) → Lawful m → (S : ℕ → Type 0) (u t d a : ℕ) (es : List ℕ) → Way m S u t d a es → t ≤ a

@@ -7,7 +7,7 @@ use Rattle.std.specs.Cmp.{ranked}
 use Rattle.std.specs.Cmp.Lexicographic.{slice_cmp}
 use Rattle.journeys.specs.Rank.{Smaller}
 use Rattle.entries.specs.declared.entry.Journey.{Journey}
-use Rattle.branches.specs.Bests.{Offered}
+use Rattle.branches.specs.Bests.{Better}
 
 -- numbers, and then something else
 below_first : (z x y : ℕ) (o : Ordering) (S T : Type 0) → (is_lt o ≡ true → S → T) → is_lt (ordering_then (nat_cmp x y) o) ≡ true → (z < x) ⊎ ((z ≡ x) × S) → (z < y) ⊎ ((z ≡ y) × T)
@@ -47,9 +47,9 @@ module _ (x y : Journey) where
   abbrev before : Bool
   before = is_lt (ordering_then (nat_cmp x.arrival y.arrival) (slice_cmp nat_cmp x.edges.items y.edges.items))
 
-  kept : (b : Bool) → before ≡ b → Offered x (Some y) (cond b x y)
+  kept : (b : Bool) → before ≡ b → Better x (Some y) (cond b x y)
   kept true h = inl (refl, λ b es. below_first b x.arrival y.arrival _ _ _ (below_less es x.edges.items y.edges.items) h)
   kept false h = inr (refl, not_first x.arrival y.arrival _ _ (not_smaller x.edges.items y.edges.items) h)
 
-  pub lesser_kept : Offered x (Some y) (cond before x y)
+  pub lesser_kept : Better x (Some y) (cond before x y)
   lesser_kept = kept before refl

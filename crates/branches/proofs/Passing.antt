@@ -14,7 +14,7 @@ use Rattle.entries.specs.declared.entry.Entry.{Entry}
 use Rattle.entries.specs.declared.entry.Journey.{Journey}
 use Rattle.entries.specs.Listing.{edges_of, all_edges}
 use Rattle.entries.proofs.Listed.{in_more}
-use Rattle.branches.specs.Bests.{Offered, FirstLeaving, Unsurpassed, Beats, Progress, Beginning, First}
+use Rattle.branches.specs.Bests.{Better, FirstLeaving, Unsurpassed, Beats, Progress, Beginning, First}
 use Rattle.branches.proofs.Advancing.{whole}
 use Rattle.branches.proofs.Detours.{before_le}
 
@@ -31,7 +31,7 @@ module _ (m : Meaning) (q : Question) (ys : List (List ℕ)) where
       on None h = λ a r j. let l = h a r j in let k = j.onward.in_time in omega arith
       on (Some x) h = λ a r j k. let l = h a r j in let n = before_le a x.arrival (p ++ r) x.edges.items k in omega arith
 
-  pub one_left : (p : List ℕ) (by : ℕ) (x : Journey) (best : Option Journey) (new : Journey) → FirstLeaving m q ys p by (Some x) → Offered x best new → Unsurpassed m q ys best →
+  pub one_left : (p : List ℕ) (by : ℕ) (x : Journey) (best : Option Journey) (new : Journey) → FirstLeaving m q ys p by (Some x) → Better x best new → Unsurpassed m q ys best →
       Progress m q ys (λ z. z ≡ p) best (Some new)
   one_left p by x None new (l, b) e u =
       rw e (record { unlisted = l; beats = λ z h. rw h (b x.arrival x.edges.items (before_irrefl x.arrival x.edges.items)); keeps = λ z h a r j k. h a r j })

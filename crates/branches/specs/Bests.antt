@@ -9,9 +9,9 @@ use Rattle.journey_laws.specs.Theorems.{SimpleEntries, Branches}
 use Rattle.entries.specs.declared.entry.Journey.{Journey}
 
 -- which of a journey x and the best is kept: x, where all that ranks before it ranks before the best; or the best, where x does not rank before it
-abbrev pub Offered : Journey → Option Journey → Journey → Type 0
-Offered x None new = new ≡ x
-Offered x (Some y) new =
+abbrev pub Better : Journey → Option Journey → Journey → Type 0
+Better x None new = new ≡ x
+Better x (Some y) new =
     ((new ≡ x) × ((b : ℕ) (es : List ℕ) → Before b es x.arrival x.edges.items → Before b es y.arrival y.edges.items))
     ⊎ ((new ≡ y) × ¬ Before x.arrival x.edges.items y.arrival y.edges.items)
 

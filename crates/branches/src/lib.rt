@@ -8,7 +8,7 @@ ghost use Rattle.journey_laws.specs.Branching.{Place};
 ghost use Rattle.journey_laws.specs.Theorems.{SimpleEntries};
 ghost use Rattle.entries.specs.Listing.{all_edges, listed};
 ghost use Rattle.branches.specs.Following.{At};
-ghost use Rattle.branches.specs.Bests.{Offered, Surpasses, Beginning, FirstLeaving, Improves, First};
+ghost use Rattle.branches.specs.Bests.{Better, Surpasses, Beginning, FirstLeaving, Improves, First};
 
 use detour::{Course, detour};
 use entries::entry::{Entries, Entry, Journey};
@@ -22,9 +22,9 @@ mod position;
 
 // The better of the best journey so far and another one.
 fn offer(best: Option<Journey>, journey: Journey) -> Journey
-    ensures { Offered journey best result }
+    ensures { Better journey best result }
 {
-    // A match, since `map_or` would take the journey twice.
+    // A match: two arms are plainer than a chain of both and its least.
     match best {
         Some(best) => best.min(journey),
         None => journey,
@@ -70,11 +70,7 @@ impl<N: Network> Branching<'_, N> {
             destination: self.question.destination(),
             latest: by,
         };
-        // Not `.ok()?`: the proof of what is answered here did not close over it.
-        let Ok((arrival, count)) = detour(self.network, course, &mut shut, &barred, &mut edges)
-        else {
-            return None;
-        };
+        let (arrival, count) = detour(self.network, course, &mut shut, &barred, &mut edges).ok()?;
         Journey::joined(arrival, beginning, &edges[..count]).ok()
     }
 
@@ -89,7 +85,7 @@ impl<N: Network> Branching<'_, N> {
         requires place { Place (λ y. In y (listed self.now.entries.now)) beginning.now }
         ensures { Improves (N.Network.meaning self.now.network.now) self.now.question.now (listed self.now.entries.now) (λ p. p ≡ beginning.now) best result }
     {
-        // A match, since `map_or` would take the best twice.
+        // A match: `map_or` would take the best twice.
         match self.first_leaving(beginning, position, until(self.question, &best)) {
             Some(journey) => Some(offer(best, journey)),
             None => best,

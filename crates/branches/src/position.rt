@@ -32,9 +32,7 @@ impl Position {
     pub fn advance<N: Network>(self, network: &N, edge: u16) -> Option<Position>
         ensures { (q : Question) (p : List ℕ) → At (N.Network.meaning network.now) q p self → Advanced (N.Network.meaning network.now) q p edge result }
     {
-        let Ok(step) = take_edge(network, Some(self.stop), self.instant, edge) else {
-            return None;
-        };
+        let step = take_edge(network, Some(self.stop), self.instant, edge).ok()?;
         if step.to == self.stop || self.behind.contains(step.to) {
             return None;
         }

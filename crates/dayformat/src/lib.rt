@@ -34,6 +34,13 @@ impl Kind {
         }
     }
 
+    // The place of the kind in the order of a file, from 0: the variants stand in that order.
+    pub fn turn(self) -> u8
+        ensures { result ≡ (layout self).turn }
+    {
+        self as u8
+    }
+
     // Whether a record of the kind may stand behind one of another kind.
     pub fn may_follow(self, earlier: Kind) -> bool
         ensures { IsTrue result ↔ ((layout earlier).turn ≤ (layout self).turn) }

@@ -67,9 +67,10 @@ impl<'a> Reader<'a> {
         ensures { Finds self.now.file.now self.now.at self.now.latest result }
     {
         let rest = &self.file[self.at..];
-        let Some(mark) = rest.first_chunk::<2>() else {
-            return Err(FileRefusal::EndsEarly(self.at));
-        };
+        let mark = rest
+            .first_chunk::<2>()
+            .ok_or(FileRefusal::EndsEarly(self.at))?;
+        // Not `.map_err(..)?`: behind it the proof of what is answered did not close, which does behind this.
         let Ok(kind) = Kind::try_from(*mark) else {
             return Err(FileRefusal::UnknownMark(self.at));
         };

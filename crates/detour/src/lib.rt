@@ -10,7 +10,7 @@ ghost use Rattle.journeys.specs.Journeys.{In};
 ghost use Rattle.journeys.specs.Rank.{FirstInRank};
 ghost use Rattle.journey_laws.specs.Ways.{Also, Onward, Leading, Chosen};
 ghost use Rattle.journey_laws.specs.Arrivals.{Relaxed, Nearest, Found, Earliest};
-ghost use Rattle.detour.specs.Choosing.{Attempted};
+ghost use Rattle.detour.specs.Choosing.{Tries};
 ghost use Rattle.detour.specs.Detours.{Reason, Answers};
 ghost use Rattle.refusals.specs.declared.DetourRefusal.TheVariants.{NoDetour};
 
@@ -35,11 +35,8 @@ pub struct Course {
 // A course by an arrival within the day.
 #[derive(Clone, Copy)]
 struct Fit {
-    stop: u8,
-    instant: u32,
-    destination: u8,
-    latest: u32,
-    ghost in_day: { latest ≤ day_end },
+    course: Course,
+    ghost in_day: { course.latest ≤ day_end },
 }
 
 // Tries every edge that leaves a stop at an instant, and lowers the arrivals at the stops that are reached earlier.
@@ -81,20 +78,20 @@ fn nearest(arrivals: &[u32; 256], settled: &StopSet, latest: u32) -> Option<u8>
 // The earliest arrival of a course, or one that is early enough.
 fn earliest<N: Network>(
     departures: &Departures<N>,
-    course: Fit,
+    fit: Fit,
     enough: u32,
     around: &Around,
 ) -> Option<u32>
-    requires apart { course.stop ≢ course.destination }
-    requires in_order { enough ≤ course.latest }
-    ensures { Found (N.Network.meaning departures.now.network.now) (Holds around.now.shut.now) (λ e. In e around.now.barred.now) course.stop course.instant course.destination course.latest enough result }
+    requires apart { fit.course.stop ≢ fit.course.destination }
+    requires in_order { enough ≤ fit.course.latest }
+    ensures { Found (N.Network.meaning departures.now.network.now) (Holds around.now.shut.now) (λ e. In e around.now.barred.now) fit.course.stop fit.course.instant fit.course.destination fit.course.latest enough result }
 {
-    let Fit {
+    let Course {
         stop,
         instant,
         destination,
         latest,
-    } = course;
+    } = fit.course;
     // A stop that is not reached has the greatest number: each arrival compares as earlier, with no case of its own.
     let mut arrivals = [u32::MAX; 256];
     let mut settled = StopSet::empty();
@@ -116,15 +113,16 @@ fn earliest<N: Network>(
 }
 
 // Whether some journey follows a course.
-fn leads_on<N: Network>(departures: &Departures<N>, course: Fit, shut: &StopSet) -> bool
-    ensures yes { result ≡ true → Leading (N.Network.meaning departures.now.network.now) (Holds shut.now) course.stop course.instant course.destination course.latest }
-    ensures no { result ≡ false → Leading (N.Network.meaning departures.now.network.now) (Holds shut.now) course.stop course.instant course.destination course.latest → ⊥ }
+fn leads_on<N: Network>(departures: &Departures<N>, fit: Fit, shut: &StopSet) -> bool
+    ensures yes { result ≡ true → Leading (N.Network.meaning departures.now.network.now) (Holds shut.now) fit.course.stop fit.course.instant fit.course.destination fit.course.latest }
+    ensures no { result ≡ false → Leading (N.Network.meaning departures.now.network.now) (Holds shut.now) fit.course.stop fit.course.instant fit.course.destination fit.course.latest → ⊥ }
 {
+    let course = fit.course;
     if course.stop == course.destination {
         return course.instant <= course.latest;
     }
     let around = Around { shut, barred: &[] };
-    earliest(departures, course, course.latest, &around).is_some()
+    earliest(departures, fit, course.latest, &around).is_some()
 }
 
 // An edge to take next, the stop that it reaches, and when.
@@ -139,24 +137,27 @@ struct Choice {
 fn attempt<N: Network>(
     departures: &Departures<N>,
     edge: u16,
-    course: Fit,
+    fit: Fit,
     around: &Around,
 ) -> Option<Choice>
-    requires here { Holds around.now.shut.now course.stop }
-    ensures { Attempted (N.Network.meaning departures.now.network.now) (Holds around.now.shut.now) (λ e. In e around.now.barred.now) course.stop course.instant course.destination course.latest edge result }
+    requires here { Holds around.now.shut.now fit.course.stop }
+    ensures { Tries (N.Network.meaning departures.now.network.now) (Holds around.now.shut.now) (λ e. In e around.now.barred.now) fit.course.stop fit.course.instant fit.course.destination fit.course.latest edge result }
 {
-    let Fit {
-        stop,
-        instant,
-        destination,
-        latest,
-    } = course;
-    let (to, arrival) = try_edge(departures.network, edge, stop, instant, stop, around)?;
+    let course = fit.course;
+    let (to, arrival) = try_edge(
+        departures.network,
+        edge,
+        course.stop,
+        course.instant,
+        course.stop,
+        around,
+    )?;
     let rest = Fit {
-        stop: to,
-        instant: arrival,
-        destination,
-        latest,
+        course: Course {
+            stop: to,
+            instant: arrival,
+            ..course
+        },
     };
     if leads_on(departures, rest, around.shut) {
         Some(Choice { edge, to, arrival })
@@ -166,14 +167,14 @@ fn attempt<N: Network>(
 }
 
 // The least edge that can begin a journey of a course.
-fn choose<N: Network>(departures: &Departures<N>, course: Fit, around: &Around) -> Choice
-    requires apart { course.stop ≢ course.destination }
-    requires here { Holds around.now.shut.now course.stop }
-    requires some { (a : ℕ) × (es : List ℕ) × Onward (N.Network.meaning departures.now.network.now) (Holds around.now.shut.now) (λ e. In e around.now.barred.now) course.stop course.instant course.destination course.latest a es }
-    ensures { Chosen (N.Network.meaning departures.now.network.now) (Holds around.now.shut.now) (λ e. In e around.now.barred.now) course.stop course.instant course.destination course.latest result.edge result.to result.arrival }
+fn choose<N: Network>(departures: &Departures<N>, fit: Fit, around: &Around) -> Choice
+    requires apart { fit.course.stop ≢ fit.course.destination }
+    requires here { Holds around.now.shut.now fit.course.stop }
+    requires some { (a : ℕ) × (es : List ℕ) × Onward (N.Network.meaning departures.now.network.now) (Holds around.now.shut.now) (λ e. In e around.now.barred.now) fit.course.stop fit.course.instant fit.course.destination fit.course.latest a es }
+    ensures { Chosen (N.Network.meaning departures.now.network.now) (Holds around.now.shut.now) (λ e. In e around.now.barred.now) fit.course.stop fit.course.instant fit.course.destination fit.course.latest result.edge result.to result.arrival }
 {
-    for edge in departures.leaving(course.stop) {
-        if let Some(choice) = attempt(departures, edge, course, around) {
+    for edge in departures.leaving(fit.course.stop) {
+        if let Some(choice) = attempt(departures, edge, fit, around) {
             return choice;
         }
     }
@@ -183,34 +184,32 @@ fn choose<N: Network>(departures: &Departures<N>, course: Fit, around: &Around) 
 // Writes the edges of the first journey in rank of a course whose latest arrival is the earliest, and answers how many; more stops are then shut.
 fn trace<N: Network>(
     departures: &Departures<N>,
-    course: Fit,
+    fit: Fit,
     shut: &mut StopSet,
     barred: &[u16],
     edges: &mut [u16; 255],
 ) -> usize
-    requires stop_free { member shut.old course.stop ≡ false }
-    requires destination_free { member shut.old course.destination ≡ false }
-    requires earliest { Earliest (N.Network.meaning departures.now.network.now) (Holds shut.old) (λ e. In e barred.now) course.stop course.instant course.destination course.latest }
+    requires stop_free { member shut.old fit.course.stop ≡ false }
+    requires destination_free { member shut.old fit.course.destination ≡ false }
+    requires earliest { Earliest (N.Network.meaning departures.now.network.now) (Holds shut.old) (λ e. In e barred.now) fit.course.stop fit.course.instant fit.course.destination fit.course.latest }
     ensures few { result ≤ 255 }
-    ensures answer { FirstInRank (Onward (N.Network.meaning departures.now.network.now) (Holds shut.old) (λ e. In e barred.now) course.stop course.instant course.destination course.latest) course.latest (take result edges.new) }
+    ensures answer { FirstInRank (Onward (N.Network.meaning departures.now.network.now) (Holds shut.old) (λ e. In e barred.now) fit.course.stop fit.course.instant fit.course.destination fit.course.latest) fit.course.latest (take result edges.new) }
     ensures rest { drop result edges.new ≡ drop result edges.old }
 {
-    let Fit {
-        mut stop,
-        mut instant,
-        destination,
-        latest,
-    } = course;
+    let course = fit.course;
+    let mut stop = course.stop;
+    let mut instant = course.instant;
     let mut barred = barred;
-    // The edges stand in the caller's buffer, as a detour is asked for, so their count is kept beside them.
+    // The edges stand in the caller's buffer, by the definition of a detour, so their count is kept beside them.
     let mut count = 0;
-    while stop != destination {
+    while stop != course.destination {
         shut.insert(stop);
         let here = Fit {
-            stop,
-            instant,
-            destination,
-            latest,
+            course: Course {
+                stop,
+                instant,
+                ..course
+            },
         };
         let choice = choose(departures, here, &Around { shut, barred });
         edges[count] = choice.edge;
@@ -225,25 +224,25 @@ fn trace<N: Network>(
 // The detour of a course between fit stops; more stops are then shut.
 fn find<N: Network>(
     network: &N,
-    course: Fit,
+    fit: Fit,
     shut: &mut StopSet,
     barred: &[u16],
     edges: &mut [u16; 255],
 ) -> Option<(u32, usize)>
-    requires apart { course.stop ≢ course.destination }
-    requires stop_free { member shut.old course.stop ≡ false }
-    requires destination_free { member shut.old course.destination ≡ false }
-    ensures answer { IfSome result (Answers (N.Network.meaning network.now) (Holds shut.old) (λ e. In e barred.now) course.stop course.instant course.destination course.latest edges.new) }
-    ensures none { IfNone result (Reason (N.Network.meaning network.now) (Holds shut.old) (λ e. In e barred.now) course.stop course.instant course.destination course.latest NoDetour) }
+    requires apart { fit.course.stop ≢ fit.course.destination }
+    requires stop_free { member shut.old fit.course.stop ≡ false }
+    requires destination_free { member shut.old fit.course.destination ≡ false }
+    ensures answer { IfSome result (Answers (N.Network.meaning network.now) (Holds shut.old) (λ e. In e barred.now) fit.course.stop fit.course.instant fit.course.destination fit.course.latest edges.new) }
+    ensures none { IfNone result (Reason (N.Network.meaning network.now) (Holds shut.old) (λ e. In e barred.now) fit.course.stop fit.course.instant fit.course.destination fit.course.latest NoDetour) }
     ensures rest { MatchOption result (edges.new ≡ edges.old) (λ p. drop p.1 edges.new ≡ drop p.1 edges.old) }
 {
     let departures = Departures::by_stop(network);
-    let arrival = earliest(&departures, course, 0, &Around { shut, barred })?;
+    let arrival = earliest(&departures, fit, 0, &Around { shut, barred })?;
     let first = Fit {
-        stop: course.stop,
-        instant: course.instant,
-        destination: course.destination,
-        latest: arrival,
+        course: Course {
+            latest: arrival,
+            ..fit.course
+        },
     };
     let count = trace(&departures, first, shut, barred, edges);
     Some((arrival, count))
@@ -279,12 +278,7 @@ pub fn detour<N: Network>(
         saved: *shut,
         set: shut,
     };
-    let fit = Fit {
-        stop,
-        instant,
-        destination,
-        latest,
-    };
+    let fit = Fit { course };
     let answer = find(network, fit, guard.set, barred, edges).ok_or(DetourRefusal::NoDetour)?;
     Ok(answer)
 }

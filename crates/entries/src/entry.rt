@@ -1,13 +1,25 @@
 // A journey, an entry of a search, and the list of the entries.
-ghost use Rattle.std.specs.Prelude.{◌≡◌, ◌+◌, ◌≤◌, ◌↔◌, ◌++◌, length, take, drop, IsOk, IfOk};
+ghost use Rattle.std.specs.Prelude.{◌≡◌, ◌+◌, ◌≤◌, ◌↔◌, ◌++◌, [], length, take, drop, IsOk, IfOk};
 
 use arrayvec::{ArrayVec, CapacityError};
 
 // The arrival of a journey, and its edges, which are at most 255. They compare in this order: simple journeys by rank.
-#[derive(Clone, Drop, Default, PartialEq, Eq, PartialOrd, Ord)]
+#[derive(Clone, Drop, PartialEq, Eq, PartialOrd, Ord)]
 pub struct Journey {
     pub arrival: u32,
     pub edges: ArrayVec<u16, 255>,
+}
+
+// What stands in places with no entry: no edges, at instant 0. By hand, so that the contract says it, and a wrong one is refused.
+impl Default for Journey {
+    ghost is_default = { λ j. (j.arrival ≡ 0) × (j.edges.items ≡ []) };
+
+    fn default() -> Journey {
+        Journey {
+            arrival: 0,
+            edges: ArrayVec::new(),
+        }
+    }
 }
 
 impl Journey {

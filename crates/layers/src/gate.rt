@@ -12,6 +12,7 @@ use refusals::Refusal;
 
 pub type Gate<N> = Layer<N, Windows>;
 
+// `add` stands at each kind, as `late.rt` says.
 impl<N: Network> Layer<N, Windows> {
     // Adds a window; a refusal leaves the gate as it was.
     pub fn add(&mut self, window: Window) -> Result<(), Refusal>

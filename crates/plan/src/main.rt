@@ -42,10 +42,7 @@ fn list<N: Network + Drop>(
 ) -> Result<(), Failure> {
     let mut answers: [Answer; 16] = array::from_fn(|_| Ok(Reply::Struck));
     let network = run(network, question, &[Call::Next; 16], &mut answers).into_network();
-    let first = &answers[0];
-    if let Err(refusal) = first {
-        return Err((*refusal).into());
-    }
+    answers[0].as_ref().map_err(|refusal| *refusal)?;
     for (i, answer) in answers.iter().enumerate() {
         if let Ok(Reply::Gave(journey)) = answer {
             print_journey(rt, &network, question.start(), i + 1, journey)?;

@@ -62,6 +62,7 @@ impl<N: Network> OpenSearch<N> {
         ensures answer { IfOk result (λ j. (j.edges.items ≡ edges.now) × Unlisted (N.Network.meaning self.now.network) self.now.question (listed self.now.entries) j.arrival edges.now) }
         ensures refusal { Judged OfSearch (53 ∷ 54 ∷ 50 ∷ []) (AgainstStrike (N.Network.meaning self.now.network) self.now.question (listed self.now.entries) edges.now) result }
     {
+        // Not `.ok_or(..)?`: behind it three proofs did not close, which do behind this.
         let Some(arrival) = simple_arrival(&self.network, &self.question, edges) else {
             return Err(SearchRefusal::NotSimple);
         };
@@ -92,7 +93,7 @@ impl<N: Network> OpenSearch<N> {
         Ok(told)
     }
 
-    // The i-th journey that was given, from 1; it is told as next told it.
+    // The i-th journey that was given, from 1; it is told as next told it, in the same buffer and with the same answer.
     pub fn again(&self, i: usize, buffer: &mut [u16; 255]) -> Result<(u32, usize), Refusal>
         ensures answer { IfOk result (λ p. Ith (given_of self.now.entries) i (told_journey buffer.new p)) }
         ensures refusal { Verdict OfSearch (52 ∷ []) (AgainstAgain (given_of self.now.entries) i) result }

@@ -34,7 +34,7 @@ impl StopSet {
     }
 }
 
-// Lends a set; at its end the set holds again what was saved. A detour is asked for with such a guard.
+// Lends a set; at its end the set holds again what was saved. A detour puts the set back by such a guard: that is part of its definition.
 pub struct Restore<'a> {
     pub set: &'a mut StopSet,
     pub saved: StopSet,

@@ -1,4 +1,4 @@
-use Rattle.std.proofs.Common.{◌≡◌, ℕ, Option, Some, IfSome, take, subst, rules}
+use Rattle.std.proofs.Common.{◌≡◌, ℕ, Option, Some, IfSome, take, subst, arith, rules}
 use Rattle.stops.specs.Sets.{Holds}
 use Rattle.journeys.specs.Journeys.{In}
 use Rattle.detour.specs.Detours.{Answers}
@@ -16,4 +16,4 @@ returns-clause-refusal g c =
     let found = subst (λ o. IfSome o (Answers m S B q.stop q.instant q.destination q.latest c.find.new.edges)) some c.find.ensures.answer in
     no_reason m S B q.stop q.instant q.destination q.latest p.0 (take p.1 c.find.new.edges)
     c.if-stop-destination.false (not_held _ _ _ c.contains.ensures c.if-contains.false) (not_held _ _ _ c.contains-else-contains.ensures c.if-contains-2.false)
-    c.if-instant-latest.false c.if-latest-gt-DAY_END.false found.first.member
+    (omega (arith, c.if-instant-latest.false)) (omega (arith, c.if-latest-gt-DAY_END.false)) found.first.member

@@ -12,7 +12,7 @@ pub returns-in_err-arrival-clause-none : goal.returns-in_err-arrival-clause-none
 returns-in_err-arrival-clause-none g c =
     let S = Holds c.args.shut.now in
     let B : ℕ → Type 0 = λ e. In e c.args.barred.now in
-    let q = c.args.course in
+    let q = c.args.fit.course in
     let none = subst (λ n. (a : ℕ) (es : List ℕ) → Onward (g.N.Network.meaning n) S B q.stop q.instant q.destination q.latest a es → ⊥) c.by_stop-departures.ensures c.in_err-arrival.ensures in
     rw c.from_residual.ensures (λ a es j. none a es ((detour_onward (g.N.Network.meaning c.args.network.now) S B q.stop q.instant q.destination q.latest a es).0 j))
 
@@ -21,7 +21,7 @@ returns-clause-answer g c =
     let S = Holds c.args.shut.now in
     let B : ℕ → Type 0 = λ e. In e c.args.barred.now in
     let m = g.N.Network.meaning c.args.network.now in
-    let q = c.args.course in
+    let q = c.args.fit.course in
     let a = c.in_ok-arrival.arrival in
     let es = take c.trace-count.result c.trace-count.new.edges in
     let same = c.by_stop-departures.ensures in

@@ -9,9 +9,9 @@ pub returns-then-course : goal.returns-then-course
 returns-then-course g c =
     let m = g.N.Network.meaning c.args.departures.now.network.now in
     let S = Holds c.args.shut.now in
-    let d = c.args.course.destination in
-    let t = c.args.course.instant in
-    let latest = c.args.course.latest in
+    let d = c.args.fit.course.destination in
+    let t = c.args.fit.course.instant in
+    let latest = c.args.fit.course.latest in
     record {
       yes = λ h. subst (λ u. Leading m S u t d latest) (sym c.if-course.true) ((here_leads m S d t latest).0 (leb-true t latest h));
       no = λ h l. (let le : t ≤ latest = (here_leads m S d t latest).1 (subst (λ u. Leading m S u t d latest) c.if-course.true l) in omega (arith, leb-false t latest h));

@@ -8,7 +8,7 @@ pub loop-stop-init : goal.loop-stop-init
 loop-stop-init g c = (
   omega arith,
   omega arith,
-  trace_start _ c.args.course.stop c.args.course.instant c.args.course.destination c.args.course.latest c.args.edges.now c.args.barred.now c.args.shut.now
+  trace_start _ c.args.fit.course.stop c.args.fit.course.instant c.args.fit.course.destination c.args.fit.course.latest c.args.edges.now c.args.barred.now c.args.shut.now
       (omega arith) c.requires.stop_free c.requires.destination_free c.requires.earliest,
 )
 

@@ -10,7 +10,7 @@ abbrev pub invariant-loop-stop : goal.invariant-loop-stop
 invariant-loop-stop g l =
     let m = g.N.Network.meaning l.departures.network.now in
     (length l.edges ≡ 255) × (l.count ≤ 255)
-    × Tracing m (Onward m (Holds l.initial.shut) (λ e. In e l.initial.barred) l.initial.stop l.initial.instant l.destination l.latest) l.destination l.latest l.initial.edges l.edges l.count l.stop l.instant l.shut l.barred
+    × Tracing m (Onward m (Holds l.initial.shut) (λ e. In e l.initial.barred) l.initial.stop l.initial.instant l.course.destination l.course.latest) l.course.destination l.course.latest l.initial.edges l.edges l.count l.stop l.instant l.shut l.barred
 
 abbrev pub decreases-loop-stop : goal.decreases-loop-stop
 decreases-loop-stop g l = left (member l.shut) 256
