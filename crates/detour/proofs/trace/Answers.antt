@@ -12,14 +12,10 @@ loop-stop-init g c = (
       (omega arith) c.requires.stop_free c.requires.destination_free c.requires.earliest,
 )
 
-pub choose-choice-requires : goal.choose-choice-requires
-choose-choice-requires g c =
+pub choose-choice-requires-clause-some : goal.choose-choice-requires-clause-some
+choose-choice-requires-clause-some g c =
     let s : Settles (member c.loop-stop.shut) (member c.insert.new.self) c.loop-stop.stop = record { here = c.insert.ensures.after; rest = c.insert.ensures.rest } in
-    record {
-      apart = c.loop-stop-test.true;
-      here = s.here;
-      some = goes_on c.insert.new.self c.loop-stop.invariant.2 s c.loop-stop-test.true (omega arith);
-    }
+    goes_on c.insert.new.self c.loop-stop.invariant.2 s c.loop-stop-test.true (omega arith)
 
 pub bounds-edges-count : goal.bounds-edges-count
 bounds-edges-count g c =
@@ -41,9 +37,5 @@ loop-stop-preserved g c =
       trace_more c.insert.new.self c.loop-stop.invariant.2 s c.loop-stop-test.true (omega arith) (g.met.N.Network.lawful c.args.departures.now.network.now) within _ _ _ c.choose-choice.ensures,
     )
 
-pub returns : goal.returns
-returns g c = record {
-  few = c.loop-stop.invariant.1;
-  answer = trace_end c.loop-stop.invariant.2 c.loop-stop-test.false;
-  rest = c.loop-stop.invariant.2.rest;
-}
+pub returns-clause-answer : goal.returns-clause-answer
+returns-clause-answer g c = trace_end c.loop-stop.invariant.2 c.loop-stop-test.false
