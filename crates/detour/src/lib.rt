@@ -32,7 +32,7 @@ pub struct Course {
     pub latest: u32,
 }
 
-// A course by an arrival within the day.
+// A course by an arrival within the day. That its stop is not its destination is no part of this: at the end of a journey they are one.
 #[derive(Clone, Copy)]
 struct Fit {
     course: Course,

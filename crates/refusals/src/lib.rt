@@ -106,6 +106,7 @@ pub enum Refusal {
     OfDetour(DetourRefusal),
 }
 
+// By hand, since a derived `From` has no contract.
 impl From<FileRefusal> for Refusal {
     ghost from_gives = { λ e r. r ≡ OfFile e };
 

@@ -77,6 +77,7 @@ impl<N: Network> OpenSearch<N> {
 
     // Gives the first in rank of the unlisted journeys: its arrival and how many edges it has. They are written at the buffer's front.
     // That buffer of exactly 255 places and that answer are part of the definition of a search.
+    // That network and question stay is said by two equations, here and in three more contracts: no name for them is shorter.
     pub fn next(&mut self, buffer: &mut [u16; 255]) -> Result<(u32, usize), Refusal>
         ensures same { (self.new.network ≡ self.old.network) × (self.new.question ≡ self.old.question) }
         ensures answer { IfOk result (λ p. FirstInRank (Unlisted (N.Network.meaning self.old.network) self.old.question (listed self.old.entries)) p.0 (take p.1 buffer.new)) }
