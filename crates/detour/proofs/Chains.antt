@@ -84,3 +84,8 @@ module _ {m : Meaning} {first next : List (Option ℕ)} (d : Grouped m 0 first n
 
   pub still : after.next.now ≡ next
   still = steps.same ∙ same
+
+  -- one edge more is tried, and so are those that follow before the next that leaves the stop
+  pub tried : {S B : ℕ → Type 0} {t : ℕ} {old new newer : ℕ → ℕ} → Relaxed m S B s t (or_count m before.edge) old new → (Relaxed m S B s t e old new → Relaxed m S B s t (e + 1) old newer) →
+      (after.next.now ≡ next) × ForSome after.edge (λ e. (e < m.count) × (start_of m e ≡ Some s)) × Relaxed m S B s t (or_count m after.edge) old newer
+  tried {S} {B} {t} {old} {new} r more = (still, further.leaves, skips (more (subst (λ n. Relaxed m S B s t n old new) standing r)) further)

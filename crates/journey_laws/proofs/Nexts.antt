@@ -1,10 +1,10 @@
 -- The next edges of the entries that begin with p, as a loop gathers them; and where a list of edges goes wrong.
-use Rattle.std.proofs.Common.{◌≡◌, ℕ, ◌<◌, ◌⊎◌, ◌↔◌, List, [], ◌∷◌, ◌++◌, length, get_or, take, sym, refl, ap, ap₂, inl, inr, arith}
+use Rattle.std.proofs.Common.{◌≡◌, ℕ, ◌<◌, List, [], ◌∷◌, ◌++◌, length, get_or, take, sym, refl, ap, ap₂, arith}
 use Rattle.networks.specs.Networks.{Meaning}
 use Rattle.journeys.specs.Walking.{Takes}
 use Rattle.journeys.specs.Journeys.{In}
 use Rattle.journey_laws.specs.Ways.{Nothing, Way}
-use Rattle.journey_laws.specs.Branching.{Through, NextEdge}
+use Rattle.journey_laws.specs.Branching.{Through}
 use Rattle.journey_laws.proofs.Places.{one_through}
 use Rattle.journey_laws.proofs.Diverging.{split}
 
@@ -22,37 +22,6 @@ goes_on_by (x ∷ p) (f ∷ y) e h l g =
 pub tested : (p : List ℕ) (e : ℕ) (r : List ℕ) → (take (length p) (p ++ (e ∷ r)) ≡ p) × (length p < length (p ++ (e ∷ r))) × (get_or (p ++ (e ∷ r)) (length p) 0 ≡ e)
 tested [] e r = (refl, omega arith, refl)
 tested (x ∷ p) e r = let (a, b, c) = tested p e r in (ap (λ (z : List ℕ). x ∷ z) a, omega arith, c)
-
--- one entry more
-pub next_more : (ys : List (List ℕ)) (y p : List ℕ) (e : ℕ) → NextEdge (λ z. In z (ys ++ (y ∷ []))) p e ↔ (NextEdge (λ z. In z ys) p e ⊎ ((r : List ℕ) × (p ++ (e ∷ r) ≡ y)))
-next_more ys y p e = (λ (r, h). there r (last_in ys (p ++ (e ∷ r)) h), back)
-  where
-    last_in : (ys : List (List ℕ)) (x : List ℕ) → In x (ys ++ (y ∷ [])) → In x ys ⊎ (x ≡ y)
-    last_in [] x (inl h) = inr h
-    last_in [] x (inr h) = absurd h
-    last_in (z ∷ ys) x (inl h) = inl (inl h)
-    last_in (z ∷ ys) x (inr h) = on (last_in ys x h)
-      where
-        on : In x ys ⊎ (x ≡ y) → In x (z ∷ ys) ⊎ (x ≡ y)
-        on (inl k) = inl (inr k)
-        on (inr k) = inr k
-
-    in_front : (ys : List (List ℕ)) (x : List ℕ) → In x ys → In x (ys ++ (y ∷ []))
-    in_front [] x h = absurd h
-    in_front (z ∷ ys) x (inl h) = inl h
-    in_front (z ∷ ys) x (inr h) = inr (in_front ys x h)
-
-    in_last : (ys : List (List ℕ)) (x : List ℕ) → x ≡ y → In x (ys ++ (y ∷ []))
-    in_last [] x h = inl h
-    in_last (z ∷ ys) x h = inr (in_last ys x h)
-
-    there : (r : List ℕ) → In (p ++ (e ∷ r)) ys ⊎ (p ++ (e ∷ r) ≡ y) → NextEdge (λ z. In z ys) p e ⊎ ((r : List ℕ) × (p ++ (e ∷ r) ≡ y))
-    there r (inl h) = inl (r, h)
-    there r (inr h) = inr (r, h)
-
-    back : NextEdge (λ z. In z ys) p e ⊎ ((r : List ℕ) × (p ++ (e ∷ r) ≡ y)) → NextEdge (λ z. In z (ys ++ (y ∷ []))) p e
-    back (inl (r, h)) = (r, in_front ys (p ++ (e ∷ r)) h)
-    back (inr (r, h)) = (r, in_last ys (p ++ (e ∷ r)) h)
 
 -- where the next edge cannot be taken, no way goes on
 pub stuck : (m : Meaning) (u t d a : ℕ) (p after : List ℕ) (v i e : ℕ) (r : List ℕ) → Through m [] u t p after v i →

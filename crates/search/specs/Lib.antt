@@ -1,6 +1,5 @@
 pub mod Reasons
 pub mod Calls
-pub mod Known
 pub mod Sounds
 pub mod Runs
 pub mod Turning

@@ -10,7 +10,7 @@ use Rattle.journey_laws.specs.Theorems.{SimpleEntries}
 use Rattle.entries.specs.declared.entry.Entries.{Entries}
 use Rattle.entries.specs.declared.entry.Journey.{Journey}
 use Rattle.entries.specs.Listing.{listed, given_of}
-use Rattle.search.specs.Known.{Simple-prop}
+use Rattle.journey_laws.specs.Known.{Simple-prop}
 
 -- no unlisted journey ranks before one that was given
 abbrev pub Ordered : Meaning → Question → List Journey → List (List ℕ) → Type 0
