@@ -82,7 +82,7 @@ module _ (file : List ℕ) (room : Lengths) (cs : List Connection) (fs : List Fo
       none_whole file room (counts (length cs) (length fs) (length ls)) e.place e.latest e.checked (ap (take 2) e.left) (omega (arith, length-drop e.place file, ap length e.left))
 
 -- a list from i on: its next n, and the rest
-next_part : (b : List ℕ) (i n : ℕ) → drop i b ≡ take n (drop i b) ++ drop (i + n) b
+pub next_part : (b : List ℕ) (i n : ℕ) → drop i b ≡ take n (drop i b) ++ drop (i + n) b
 next_part b i n = sym (take-append-drop n (drop i b)) ∙ ap (λ (z : List ℕ). take n (drop i b) ++ z) (drop-drop n i b)
 
 module _ (file : List ℕ) (n : Lengths) (w : Whole file n) where
