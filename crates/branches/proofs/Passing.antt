@@ -39,7 +39,7 @@ module _ (m : Meaning) (q : Question) (ys : List (List ℕ)) where
       rw e (record { unlisted = l; beats = λ z h. rw h (b x.arrival x.edges.items (before_irrefl x.arrival x.edges.items)); keeps = λ z h a r j i. h a r j (k a (z ++ r) i) })
   one_left p by x (Some y) new (l, b) (inr (e, k)) u = rw e (record { unlisted = u; beats = λ z h. rw h (b y.arrival y.edges.items k); keeps = λ z h. h })
 
-  then : (D E F : List ℕ → Type 0) (a b c : Option Journey) → Progress m q ys D a b → Progress m q ys E b c → ((p : List ℕ) → F p → D p ⊎ E p) → Progress m q ys F a c
+  pub then : (D E F : List ℕ → Type 0) (a b c : Option Journey) → Progress m q ys D a b → Progress m q ys E b c → ((p : List ℕ) → F p → D p ⊎ E p) → Progress m q ys F a c
   then D E F a b c x y f = record {
     unlisted = y.unlisted;
     beats = λ p h. elim (f p h) [ inl k ↦ y.keeps p (x.beats p k) | inr k ↦ y.beats p k ];

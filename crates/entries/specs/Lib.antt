@@ -1,1 +1,4 @@
+pub mod Items
+pub mod Padding
+pub mod Blanks
 pub mod Listing

@@ -1,13 +1,14 @@
 // A journey, an entry of a search, and the list of the entries.
 ghost use Rattle.std.specs.Prelude.{◌≡◌, ◌+◌, ◌≤◌, ◌↔◌, ◌++◌, [], length, take, drop, IsOk, IfOk};
 
-use arrayvec::{ArrayVec, CapacityError};
+use crate::inline::{Blank, Inline};
+use arrayvec::CapacityError;
 
 // The arrival of a journey, and its edges, which are at most 255. They compare in this order: simple journeys by rank.
-#[derive(Clone, Drop, PartialEq, Eq, PartialOrd, Ord)]
+#[derive(Clone, Copy, PartialEq, Eq, PartialOrd, Ord)]
 pub struct Journey {
     pub arrival: u32,
-    pub edges: ArrayVec<u16, 255>,
+    pub edges: Inline<u16, 255>,
 }
 
 // What stands in places with no entry: no edges, at instant 0. By hand, so that the contract says it, and a wrong one is refused.
@@ -17,7 +18,7 @@ impl Default for Journey {
     fn default() -> Journey {
         Journey {
             arrival: 0,
-            edges: ArrayVec::new(),
+            edges: Inline::new(),
         }
     }
 }
@@ -28,7 +29,7 @@ impl Journey {
         ensures ok { IfOk result (λ j. (j.arrival ≡ arrival) × (j.edges.items ≡ edges.now)) }
         ensures variant { IsOk result ↔ (length edges.now ≤ 255) }
     {
-        let edges = ArrayVec::try_from(edges)?;
+        let edges = Inline::try_from(edges)?;
         Ok(Journey { arrival, edges })
     }
 
@@ -64,14 +65,24 @@ pub enum Standing {
 }
 
 // A journey that was given or struck. A place of the list with no entry holds the default one.
-#[derive(Clone, Drop, Default)]
+#[derive(Clone, Copy, Default)]
 pub struct Entry {
     pub standing: Standing,
     pub journey: Journey,
 }
 
+impl Blank for Entry {
+    ghost use Rattle.entries.specs.Blanks.{blank_entry};
+
+    ghost blank = { blank_entry };
+
+    fn blank() -> Entry {
+        Entry::default()
+    }
+}
+
 // The entries of a search, in the order in which they came; there are at most sixteen.
-#[derive(Clone, Drop)]
+#[derive(Clone, Copy)]
 pub struct Entries {
-    pub list: ArrayVec<Entry, 16>,
+    pub list: Inline<Entry, 16>,
 }

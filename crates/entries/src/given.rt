@@ -13,7 +13,14 @@ impl Entries {
     }
 
     // The journey at a place, counted from 0, of those that were given.
-    pub fn given_at(&self, place: usize) -> Option<&Journey>
+    pub fn given_at(&self, place: usize) -> Option<Journey>
+        ensures { result ≡ slice_get (given_of self.now) place }
+    {
+        self.lent_at(place).copied()
+    }
+
+    // The same, lent.
+    pub fn lent_at(&self, place: usize) -> Option<&Journey>
         ensures { option_map (λ j. j.now) result ≡ slice_get (given_of self.now) place }
     {
         let given = self.list.iter().filter(|entry| entry.is_given());

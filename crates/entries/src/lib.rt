@@ -8,9 +8,11 @@ ghost use Rattle.entries.specs.Listing.{edges_of, all_edges, listed, given_of, n
 
 use arrayvec::ArrayVec;
 use entry::{Entries, Entry};
+use inline::Inline;
 
 pub mod entry;
 pub mod given;
+pub mod inline;
 
 impl Entries {
     pub fn empty() -> Entries
@@ -18,7 +20,7 @@ impl Entries {
         ensures given { given_of result ≡ [] }
     {
         Entries {
-            list: ArrayVec::new(),
+            list: Inline::new(),
         }
     }
 

@@ -17,7 +17,6 @@ use refusals::Refusal;
 use search::calls::{Answer, Call, Reply};
 use search::run::run;
 use shown::print_journey;
-use std::array;
 use std::process::ExitCode;
 use timetable::table::DayTable;
 
@@ -40,7 +39,7 @@ fn list<N: Network + Drop>(
     network: N,
     question: Question,
 ) -> Result<(), Failure> {
-    let mut answers: [Answer; 16] = array::from_fn(|_| Ok(Reply::Struck));
+    let mut answers: [Answer; 16] = [Ok(Reply::Struck); 16];
     let network = run(network, question, &[Call::Next; 16], &mut answers).into_network();
     answers[0].as_ref().map_err(|refusal| *refusal)?;
     for (i, answer) in answers.iter().enumerate() {

@@ -1,9 +1,10 @@
 -- One entry more, and what stays true of the entries.
-use Rattle.std.proofs.Common.{◌≡◌, ℕ, ◌<◌, ◌≤◌, Bool, true, false, List, [], ◌∷◌, ◌++◌, length, map, filter, Some, None, Option, ap, ◌∙◌, inl, inr, append-nil, arith}
-use Rattle.std.proofs.lemmas.List.{map-append}
+use Rattle.std.proofs.Common.{◌≡◌, ℕ, ◌<◌, ◌≤◌, Bool, true, false, List, [], ◌∷◌, ◌++◌, length, map, filter, Ok, Err, Result, Some, None, Option, ap, ◌∙◌, inl, inr, append-nil, arith}
+use Rattle.std.proofs.lemmas.List.{map-append, length-map}
 use Rattle.std.proofs.lemmas.List.Elements.{filter-append}
 use Rattle.std.proofs.lemmas.Bool.{cases_lt}
 use Rattle.std.specs.Option.{ok_or}
+use Rattle.std.specs.Result.{IsOk, OnOk}
 use Rattle.refusals.specs.Told.{told}
 use Rattle.refusals.specs.Verdicts.{Precedes, Judged}
 use Rattle.refusals.specs.declared.Refusal.TheVariants.{OfSearch}
@@ -22,6 +23,15 @@ use Rattle.entries.proofs.Listed.{in_last}
 use Rattle.branches.specs.Bests.{First}
 use Rattle.search.specs.Reasons.{AgainstNext}
 use Rattle.search.specs.Sounds.{Ordered, Sound}
+
+-- where fewer than sixteen are listed, there is room for an entry
+pub room : (es : Entries) → ¬ (16 ≤ length (listed es)) → length es.list.items < 16
+room es few = let same = length-map es.list.items edges_of in omega arith
+
+-- what is promised on Ok, where it is Ok
+pub on_ok : {A E : Type 0} (r : Result A E) (P : Type 0) → IsOk r → OnOk r P → P
+on_ok (Ok x) P h p = p
+on_ok (Err e) P h p = absurd (cc h)
 
 module _ (m : Meaning) (q : Question) (old new : Entries) (s : Sound m q old) where
   -- what is unlisted once more are listed was unlisted before

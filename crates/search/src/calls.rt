@@ -10,7 +10,7 @@ pub enum Call<'a> {
 }
 
 // What a call that is not refused comes to.
-#[derive(Clone, Drop, PartialEq, Eq)]
+#[derive(Clone, Copy, PartialEq, Eq)]
 pub enum Reply {
     Gave(Journey),
     Struck,

@@ -54,7 +54,7 @@ impl<N: Network> OpenSearch<N> {
         ensures refusal { Judged OfSearch (52 ∷ []) (AgainstAgain (given_of self.now.entries) i) result }
     {
         let before = i.checked_sub(1).ok_or(SearchRefusal::NotGiven)?;
-        self.entries.given_at(before).ok_or(SearchRefusal::NotGiven)
+        self.entries.lent_at(before).ok_or(SearchRefusal::NotGiven)
     }
 
     // The journey of the edges, if it is unlisted and there is a place for it.
@@ -87,10 +87,11 @@ impl<N: Network> OpenSearch<N> {
     {
         let journey = self.first()?;
         let told = journey.write_to(buffer);
-        self.entries.list.push(Entry {
+        let entry = Entry {
             standing: Standing::Given,
             journey,
-        });
+        };
+        self.entries.list.try_push(entry).unwrap();
         Ok(told)
     }
 
@@ -112,10 +113,11 @@ impl<N: Network> OpenSearch<N> {
         ensures after { StrikeEnters self.old.entries edges.now result self.new.entries }
     {
         let journey = self.unlisted(edges)?;
-        self.entries.list.push(Entry {
+        let entry = Entry {
             standing: Standing::Struck,
             journey,
-        });
+        };
+        self.entries.list.try_push(entry).unwrap();
         Ok(())
     }
 
@@ -158,9 +160,16 @@ impl<N: Network> ClosedSearch<N> {
     }
 
     // The journey at a place, counted from 0, of those that the search gave.
-    pub fn given_at(&self, place: usize) -> Option<&Journey>
-        ensures { option_map (λ j. j.now) result ≡ slice_get (given_of self.now.entries) place }
+    pub fn given_at(&self, place: usize) -> Option<Journey>
+        ensures { result ≡ slice_get (given_of self.now.entries) place }
     {
         self.entries.given_at(place)
+    }
+
+    // The same, lent.
+    pub fn lent_at(&self, place: usize) -> Option<&Journey>
+        ensures { option_map (λ j. j.now) result ≡ slice_get (given_of self.now.entries) place }
+    {
+        self.entries.lent_at(place)
     }
 }

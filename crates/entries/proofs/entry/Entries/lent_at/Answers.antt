@@ -2,7 +2,7 @@ use Rattle.std.proofs.Common.{rules, tests}
 use Rattle.std.proofs.lemmas.Iterator.{YieldsList-from_slice, YieldsList-from_map_by}
 use Rattle.std.proofs.lemmas.Iterator.Consumers.{YieldsList-at, YieldsList-from_filter, nth_from_yields_List}
 use Rattle.entries.specs.Listing.{is_given}
-use Rattle.entries.proofs.entry.Entries.given_at.Goals as goal
+use Rattle.entries.proofs.entry.Entries.lent_at.Goals as goal
 
 pub returns : goal.returns
 returns c =
