@@ -1,3 +1,4 @@
+pub mod Linking
 pub mod Departing
 pub mod Leaving
 pub mod Choosing

@@ -1,27 +1,87 @@
 // A network with its edges grouped by the stop that they leave.
-ghost use Rattle.std.specs.Prelude.{◌≡◌, ℕ, ◌+◌, ◌-◌, ◌<◌, None, unwrap_or};
+ghost use Rattle.std.specs.Prelude.{◌≡◌, ℕ, ◌+◌, ◌-◌, ◌<◌, Some, None, unwrap_or};
 ghost use Rattle.std.specs.Option.{ForSome};
 ghost use Rattle.std.specs.Iterator.{at_most};
-ghost use Rattle.detour.specs.Departing.{Grouped, Ascending, link};
+ghost use Rattle.detour.specs.Departing.{Grouped, Ascending, Unlinked, link};
 
 use networks::Network;
+use std::marker::Model;
+
+// An edge or none. Edges are below 16384, so the greatest number is none: two bytes, where an `Option<u16>` takes four.
+#[derive(Clone, Copy)]
+struct Link {
+    number: u16,
+}
+
+impl Model for Link {
+    ghost use Rattle.std.specs.Prelude.{ℕ, Option};
+
+    ghost Value = { Option ℕ };
+
+    ghost use Rattle.detour.specs.Linking.{edge_of, number_of, same_link};
+
+    ghost view = { λ l. edge_of l.number };
+
+    ghost inverse = { λ o. record { number = number_of o } };
+
+    ghost inverse_ok = { λ l h. same_link l };
+}
+
+impl Link {
+    fn none() -> Link
+        ensures { result ≡ None }
+    {
+        Link { number: u16::MAX }
+    }
+
+    fn to(edge: u16) -> Link
+        requires { edge < 65535 }
+        ensures { result ≡ Some edge }
+    {
+        Link { number: edge }
+    }
+
+    fn edge(self) -> Option<u16>
+        ensures { result ≡ self }
+    {
+        if self.number == u16::MAX {
+            None
+        } else {
+            Some(self.number)
+        }
+    }
+}
+
+// The edge that stands at a place of links.
+fn edge_at<const N: usize>(links: &[Link; N], place: usize) -> Option<u16>
+    requires { place < N }
+    ensures { result ≡ link links.now place }
+{
+    links[place].edge()
+}
 
 // The first edge that leaves each stop, and after each edge the next that leaves the same stop.
 // Links in two arrays, since a list for each stop would allocate, and a search allocates nothing.
 #[derive(Drop)]
+pub struct Links {
+    first: [Link; 256],
+    next: [Link; 16384],
+}
+
+// The links are lent: they are large, and so they are filled where they stay.
+#[derive(Drop)]
 pub struct Departures<'a, N: Network> {
     pub network: &'a N,
-    first: [Option<u16>; 256],
-    next: [Option<u16>; 16384],
-    ghost grouped: { Grouped (N.Network.meaning network.now) 0 first next },
-    ghost ascending: { Ascending next },
+    links: &'a Links,
+    ghost grouped: { Grouped (N.Network.meaning network.now) 0 links.now.first links.now.next },
+    ghost ascending: { Ascending links.now.next },
 }
 
 // The edges that leave a stop, from one of them on, in ascending order.
 #[derive(Drop)]
 pub struct Leaving<'a> {
     edge: Option<u16>,
-    next: &'a [Option<u16>; 16384],
+    next: &'a [Link; 16384],
     ghost within: { ForSome edge (λ e. e < 16384) },
     ghost ascending: { Ascending next.now },
 }
@@ -37,56 +97,53 @@ impl Iterator for Leaving<'_> {
 
     fn next(&mut self) -> Option<u16> {
         let edge = self.edge?;
-        self.edge = self.next[edge as usize];
+        self.edge = edge_at(self.next, edge as usize);
         Some(edge)
     }
 }
 
+impl Links {
+    // No edge is grouped yet.
+    pub fn none() -> Links
+        ensures { Unlinked result.first result.next }
+    {
+        Links {
+            first: [Link::none(); 256],
+            next: [Link::none(); 16384],
+        }
+    }
+
+    // Puts an edge before the further edges that leave its stop.
+    fn prepend<N: Network>(&mut self, network: &N, edge: u16)
+        ensures grouped { (k : ℕ) → k ≡ edge + 1 → Grouped (N.Network.meaning network.now) k self.old.first self.old.next → Grouped (N.Network.meaning network.now) edge self.new.first self.new.next }
+        ensures ascending { (k : ℕ) → k ≡ edge + 1 → Grouped (N.Network.meaning network.now) k self.old.first self.old.next → Ascending self.old.next → Ascending self.new.next }
+    {
+        if let Some((stop, _)) = network.ends(edge) {
+            self.next[edge as usize] = self.first[stop as usize];
+            self.first[stop as usize] = Link::to(edge);
+        }
+    }
+}
+
 impl<'a, N: Network> Departures<'a, N> {
-    pub fn by_stop(network: &'a N) -> Departures<'a, N>
+    // Groups the edges of a network, in links that hold none yet.
+    pub fn by_stop(network: &'a N, links: &'a mut Links) -> Departures<'a, N>
+        requires { Unlinked links.old.first links.old.next }
         ensures { result.network.now ≡ network.now }
     {
-        let mut first = no_edges();
-        let mut next = no_edges();
         for edge in (0..network.count()).rev() {
-            prepend(network, edge, &mut first, &mut next);
+            links.prepend(network, edge);
         }
-        Departures {
-            network,
-            first,
-            next,
-        }
+        Departures { network, links }
     }
 
     // The edges that leave a stop.
     pub fn leaving(&self, stop: u8) -> Leaving<'_>
-        ensures answer { (result.edge ≡ link self.now.first stop) × (result.next.now ≡ self.now.next) }
+        ensures answer { (result.edge ≡ link self.now.links.now.first stop) × (result.next.now ≡ self.now.links.now.next) }
     {
         Leaving {
-            edge: self.first[stop as usize],
-            next: &self.next,
+            edge: edge_at(&self.links.first, stop as usize),
+            next: &self.links.next,
         }
-    }
-}
-
-fn no_edges<const N: usize>() -> [Option<u16>; N]
-    ensures { (k : ℕ) → link result k ≡ None }
-{
-    [None; N]
-}
-
-// Puts an edge before the further edges that leave its stop.
-fn prepend<N: Network>(
-    network: &N,
-    edge: u16,
-    first: &mut [Option<u16>; 256],
-    next: &mut [Option<u16>; 16384],
-)
-    ensures grouped { (k : ℕ) → k ≡ edge + 1 → Grouped (N.Network.meaning network.now) k first.old next.old → Grouped (N.Network.meaning network.now) edge first.new next.new }
-    ensures ascending { (k : ℕ) → k ≡ edge + 1 → Grouped (N.Network.meaning network.now) k first.old next.old → Ascending next.old → Ascending next.new }
-{
-    if let Some((stop, _)) = network.ends(edge) {
-        next[edge as usize] = first[stop as usize];
-        first[stop as usize] = Some(edge);
     }
 }

@@ -14,7 +14,7 @@ ghost use Rattle.detour.specs.Choosing.{Tries};
 ghost use Rattle.detour.specs.Detours.{Reason, Answers};
 ghost use Rattle.refusals.specs.declared.DetourRefusal.TheVariants.{NoDetour};
 
-use departures::Departures;
+use departures::{Departures, Links};
 use hops::{Around, try_edge};
 use networks::{DAY_END, Network};
 use refusals::{DetourRefusal, Refusal};
@@ -236,7 +236,8 @@ fn find<N: Network>(
     ensures none { IfNone result (Reason (N.Network.meaning network.now) (Holds shut.old) (λ e. In e barred.now) fit.course.stop fit.course.instant fit.course.destination fit.course.latest NoDetour) }
     ensures rest { MatchOption result (edges.new ≡ edges.old) (λ p. drop p.1 edges.new ≡ drop p.1 edges.old) }
 {
-    let departures = Departures::by_stop(network);
+    let mut links = Links::none();
+    let departures = Departures::by_stop(network, &mut links);
     let arrival = earliest(&departures, fit, 0, &Around { shut, barred })?;
     let first = Fit {
         course: Course {
