@@ -30,7 +30,3 @@ pub record Grouped (m : Meaning) (k : ℕ) (first next : List (Option ℕ)) : Ty
 -- an edge is followed by a greater one
 abbrev pub Ascending : List (Option ℕ) → Type 0
 Ascending next = (e : ℕ) → ForSome (link next e) (λ f. (e < f) × (f < 16384))
-
--- no edge stands in the links
-abbrev pub Unlinked : (first next : List (Option ℕ)) → Type 0
-Unlinked first next = (k : ℕ) → (link first k ≡ None) × (link next k ≡ None)

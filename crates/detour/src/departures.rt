@@ -2,7 +2,7 @@
 ghost use Rattle.std.specs.Prelude.{◌≡◌, ℕ, ◌+◌, ◌-◌, ◌<◌, Some, None, unwrap_or};
 ghost use Rattle.std.specs.Option.{ForSome};
 ghost use Rattle.std.specs.Iterator.{at_most};
-ghost use Rattle.detour.specs.Departing.{Grouped, Ascending, Unlinked, link};
+ghost use Rattle.detour.specs.Departing.{Grouped, Ascending, link};
 
 use networks::Network;
 use std::marker::Model;
@@ -66,6 +66,7 @@ fn edge_at<const N: usize>(links: &[Link; N], place: usize) -> Option<u16>
 pub struct Links {
     first: [Link; 256],
     next: [Link; 16384],
+    ghost ascending: { Ascending next },
 }
 
 // The links are lent: they are large, and so they are filled where they stay.
@@ -102,21 +103,24 @@ impl Iterator for Leaving<'_> {
     }
 }
 
+fn no_edges<const N: usize>() -> [Link; N]
+    ensures { (k : ℕ) → link result k ≡ None }
+{
+    [Link::none(); N]
+}
+
 impl Links {
-    // No edge is grouped yet.
-    pub fn none() -> Links
-        ensures { Unlinked result.first result.next }
-    {
+    pub fn none() -> Links {
         Links {
-            first: [Link::none(); 256],
-            next: [Link::none(); 16384],
+            first: no_edges(),
+            next: no_edges(),
         }
     }
 
     // Puts an edge before the further edges that leave its stop.
     fn prepend<N: Network>(&mut self, network: &N, edge: u16)
-        ensures grouped { (k : ℕ) → k ≡ edge + 1 → Grouped (N.Network.meaning network.now) k self.old.first self.old.next → Grouped (N.Network.meaning network.now) edge self.new.first self.new.next }
-        ensures ascending { (k : ℕ) → k ≡ edge + 1 → Grouped (N.Network.meaning network.now) k self.old.first self.old.next → Ascending self.old.next → Ascending self.new.next }
+        requires { Grouped (N.Network.meaning network.now) (edge + 1) self.old.first self.old.next }
+        ensures { Grouped (N.Network.meaning network.now) edge self.new.first self.new.next }
     {
         if let Some((stop, _)) = network.ends(edge) {
             self.next[edge as usize] = self.first[stop as usize];
@@ -126,11 +130,11 @@ impl Links {
 }
 
 impl<'a, N: Network> Departures<'a, N> {
-    // Groups the edges of a network, in links that hold none yet.
+    // Groups the edges of a network, in links that may hold others.
     pub fn by_stop(network: &'a N, links: &'a mut Links) -> Departures<'a, N>
-        requires { Unlinked links.old.first links.old.next }
         ensures { result.network.now ≡ network.now }
     {
+        links.first = no_edges();
         for edge in (0..network.count()).rev() {
             links.prepend(network, edge);
         }

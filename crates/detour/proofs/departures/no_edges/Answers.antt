@@ -2,7 +2,7 @@ use Rattle.std.proofs.Common.{◌≡◌, ℕ, ◌≤◌, Option, None, replicate
 use Rattle.std.proofs.lemmas.Bool.{cases_lt}
 use Rattle.std.proofs.lemmas.List.{get_or-replicate, get_or_past, length-replicate}
 use Rattle.detour.specs.Departing.{link}
-use Rattle.detour.proofs.departures.Links.none.Goals as goal
+use Rattle.detour.proofs.departures.no_edges.Goals as goal
 
 no_edge : (n k : ℕ) (o : Option ℕ) → o ≡ None → link (replicate n o) k ≡ None
 no_edge n k o e = elim (cases_lt k n) [
@@ -11,4 +11,4 @@ no_edge n k o e = elim (cases_lt k n) [
 ]
 
 pub returns : goal.returns
-returns c k = (no_edge 256 k _ c.none.ensures, no_edge 16384 k _ c.none-2.ensures)
+returns g c k = no_edge g.row.N k _ c.none.ensures
