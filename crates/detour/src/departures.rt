@@ -110,7 +110,9 @@ fn no_edges<const N: usize>() -> [Link; N]
 }
 
 impl Links {
-    pub fn none() -> Links {
+    pub fn none() -> Links
+        ensures { (k : ℕ) → (link result.first k ≡ None) × (link result.next k ≡ None) }
+    {
         Links {
             first: no_edges(),
             next: no_edges(),
