@@ -13,6 +13,11 @@ use timetable::table::DayTable;
 // The most that is counted, of cases and of those that differ.
 const MOST: usize = u32::MAX as usize;
 
+// How many bytes of a file are read, and how many records they hold at the most: with more room than that no list is ever full.
+const BYTES: usize = 1024;
+
+const RECORDS: usize = BYTES / 8;
+
 // A refusal's number and place.
 type Told = (u8, Option<usize>);
 
@@ -46,7 +51,7 @@ fn decode<'a>(word: &str, file: &'a mut [u8]) -> Option<&'a [u8]> {
 
 // The answer of our calls to a file in hexadecimal, with the room of three lists.
 fn answer(word: &str, room: &mut Room, table: &mut DayTable, book: &mut HeadwayBook) -> Outcome {
-    let mut file = [0u8; 1024];
+    let mut file = [0u8; BYTES];
     let file = decode(word, &mut file).unwrap_or_default();
     match unpack(file, room) {
         Ok(lengths) => {
@@ -120,10 +125,10 @@ fn main(rt: HostRuntime) -> anyhow::Result<()> {
     let mut table = DayTable::new(rt.alloc())?;
     let mut book = HeadwayBook::new(rt.alloc())?;
     let text = fs::read_to_string(&rt, "files.txt")?;
-    // Every case has its room in these lists, which are as long as it may be.
-    let mut connections = [Connection::default(); 3072];
-    let mut footpaths = [Footpath::default(); 1024];
-    let mut lines = [Line::default(); 1024];
+    // Every case has its room in these lists.
+    let mut connections = [Connection::default(); RECORDS];
+    let mut footpaths = [Footpath::default(); RECORDS];
+    let mut lines = [Line::default(); RECORDS];
     let mut cases = 0;
     let mut differing = 0u32;
     for (i, line) in text.lines().enumerate() {
@@ -131,9 +136,9 @@ fn main(rt: HostRuntime) -> anyhow::Result<()> {
         let (case, text) = line.split_once(" = ").unwrap_or((line, ""));
         let (word, n) = asked(case);
         let mut room = Room {
-            connections: &mut connections[..n.connections.min(3072)],
-            footpaths: &mut footpaths[..n.footpaths.min(1024)],
-            lines: &mut lines[..n.lines.min(1024)],
+            connections: &mut connections[..n.connections.min(RECORDS)],
+            footpaths: &mut footpaths[..n.footpaths.min(RECORDS)],
+            lines: &mut lines[..n.lines.min(RECORDS)],
         };
         if answer(word, &mut room, &mut table, &mut book) != expected(text) {
             differing = differing.saturating_add(1);
